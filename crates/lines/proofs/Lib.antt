@@ -1,0 +1,4 @@
+pub mod Tables
+pub mod Repeats
+pub mod Images
+pub mod WordRacks

@@ -1,0 +1,77 @@
+-- A table has one entry for each address, and a write to one place of a store is a write to one entry of what it means.
+use Prim.Native.Nat.{ℕ, _<_}
+use mathlib.Core.Path.{_≡_, refl, ap, sym, _∙_}
+use mathlib.Core.Bool.{true, false}
+use mathlib.Core.List.{List, [], _∷_, map}
+use mathlib.Core.Logic.{⊎-elim}
+use native.Mathlib.Omega.{arith}
+use lib.ListN.{length, getD, set}
+use Rattle.std.specs.Iters.{counting}
+use Rattle.std.proofs.shelf.Counted.{fill-by-all, getD-map-counting, length-map-counting}
+use Rattle.std.proofs.shelf.Lists.{length-set, getD-set-same, getD-set-other, set-getD}
+use Rattle.std.proofs.shelf.Tests.{cases-eq}
+use Rattle.telegrams.specs.Requests.{Sent}
+use Rattle.stations.specs.Stations.{Place, vacant, after, reply}
+use Rattle.lines.specs.Lines.{table, at, line-after, line-reply}
+
+pub length-table : {X : Type 0} (f : ℕ → X) → length (table f) ≡ 32
+unfolding table
+length-table f = length-map-counting f 0 32
+
+pub at-table : {X : Type 0} (f : ℕ → X) (b : ℕ) (d : X) → b < 32 → getD (table f) b d ≡ f b
+unfolding table
+at-table f b d h = getD-map-counting f 0 32 b b d h (omega arith)
+
+pub is-table : {X : Type 0} (f : ℕ → X) (xs : List X) (d : X) → length xs ≡ 32 → ((k : ℕ) → k < 32 → getD xs k d ≡ f k) → xs ≡ table f
+unfolding table
+is-table f xs d e h = fill-by-all f xs 32 d e h
+
+pub same-table : {X : Type 0} (f g : ℕ → X) (d : X) → ((k : ℕ) → k < 32 → f k ≡ g k) → table f ≡ table g
+same-table f g d h = is-table g (table f) d (length-table f) (λ k l. at-table f k d l ∙ h k l)
+
+map-map : {X Y Z : Type 0} (g : Y → Z) (f : X → Y) (xs : List X) → map g (map f xs) ≡ map (λ x. g (f x)) xs
+map-map g f [] = refl
+map-map g f (x ∷ xs) = ap (λ l. g (f x) ∷ l) (map-map g f xs)
+
+pub map-table : {X Y : Type 0} (g : X → Y) (f : ℕ → X) → map g (table f) ≡ table (λ a. g (f a))
+unfolding table
+map-table g f = map-map g f (counting 0 32)
+
+-- what a store means, entry by entry, after a write to place b
+pub table-set : {A B : Type 0} (f : A → B) (xs : List A) (b : ℕ) (v d : A) → b < 32 → b < length xs → set (table (λ a. f (getD xs a d))) b (f v) ≡ table (λ a. f (getD (set xs b v) a d))
+table-set {A} {B} f xs b v d inside stored =
+    is-table (λ a. f (getD (set xs b v) a d)) after (f d) (length-set before b (f v) ∙ length-table (λ a. f (getD xs a d)))
+    (λ k h. ⊎-elim (same k) (other k h) (cases-eq k b))
+  where
+    before : List B
+    before = table (λ a. f (getD xs a d))
+
+    after : List B
+    after = set before b (f v)
+
+    same : (k : ℕ) → k ≡ b → getD after k (f d) ≡ f (getD (set xs b v) k d)
+    same k e =
+        ap (λ z. getD after z (f d)) e
+        ∙ getD-set-same before b (f v) (f d) (omega (arith, length-table (λ a. f (getD xs a d))))
+        ∙ ap f (sym (getD-set-same xs b v d stored))
+        ∙ ap (λ z. f (getD (set xs b v) z d)) (sym e)
+
+    other : (k : ℕ) → k < 32 → (k ≡ b → ⊥) → getD after k (f d) ≡ f (getD (set xs b v) k d)
+    other k h ne =
+        getD-set-other before b k (f v) (f d) ne
+        ∙ at-table (λ a. f (getD xs a d)) k (f d) h
+        ∙ ap f (sym (getD-set-other xs b k v d ne))
+
+-- A rack keeps its stations in a store: f says what an element means, d stands past the end.
+-- Where the addressed element x became v by hearing a request, the line did.
+pub carried : {A : Type 0} (f : A → Place) (d : A) (xs : List A) (b : ℕ) (x v : A) (q : Sent) → b ≡ q .to → b < 32 → b < length xs → x ≡ getD xs b d → f v ≡ after true (f x) (q .asking) → table (λ a. f (getD (set xs b v) a d)) ≡ line-after true q (table (λ a. f (getD xs a d)))
+carried f d xs b x v q to inside stored read heard =
+    let there = at-table (λ a. f (getD xs a d)) b vacant inside in
+    let written = table-set f xs b v d inside stored in
+    cc
+
+pub replied : {A : Type 0} (f : A → Place) (d : A) (xs : List A) (b : ℕ) (x : A) (q : Sent) → b ≡ q .to → b < 32 → x ≡ getD xs b d → reply true (f x) (q .asking) ≡ line-reply true q (table (λ a. f (getD xs a d)))
+replied f d xs b x q to inside read = let there = at-table (λ a. f (getD xs a d)) b vacant inside in cc
+
+pub unpowered : (q : Sent) (ps : List Place) → ps ≡ line-after false q ps
+unpowered q ps = sym (set-getD ps (q .to) vacant)

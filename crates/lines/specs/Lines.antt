@@ -1,0 +1,38 @@
+-- A line: whether its power is up, and what stands at the station of each address 0 to 31.
+-- A request changes at most the addressed station, by the rules of one station.
+use Prim.Native.Nat.{ℕ, _/_}
+use mathlib.Core.Bool.{Bool}
+use mathlib.Core.List.{List, map}
+use lib.ListN.{getD, set}
+use Rattle.std.specs.Iters.{counting}
+use Rattle.std.specs.declared.option.Option.the-variants.{None}
+use Rattle.telegrams.specs.Requests.{Sent, Heard}
+use Rattle.stations.specs.declared.station.Station.{Station}
+use Rattle.stations.specs.Stations.{Place, vacant, occupied, with-disturbance, place-of, after, reply}
+
+-- one entry for each address
+unfoldable pub table : {A : Type 0} → (ℕ → A) → List A
+table f = map f (counting 0 32)
+
+abbrev pub at : List Place → ℕ → Place
+at ps a = getD ps a vacant
+
+abbrev pub line-after : Bool → Sent → List Place → List Place
+line-after power q ps = set ps (q .to) (after power (at ps (q .to)) (q .asking))
+
+abbrev pub line-reply : Bool → Sent → List Place → Heard
+line-reply power q ps = reply power (at ps (q .to)) (q .asking)
+
+-- Under a repeater every disturbance count is half, rounded down
+
+abbrev pub halved : Place → Place
+halved vacant = vacant
+halved (occupied x) = occupied (with-disturbance (x .disturbance / 2) x)
+
+-- The bench rack's table
+
+abbrev pub empty-station : Station
+empty-station = record { «module» = None }
+
+abbrev pub station-at : List Station → ℕ → Place
+station-at ss a = place-of (getD ss a empty-station)

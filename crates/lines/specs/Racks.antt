@@ -1,0 +1,42 @@
+-- Racks: lines that are opened from an image and written out as one.
+-- Both directions are laws on the contracts: what a good image says is what the opened rack means, and the words that are written
+-- out say what the rack means. So a rack that is empty for every image is shut out.
+use Prim.Native.Nat.{ℕ}
+use mathlib.Core.Path.{_≡_}
+use mathlib.Core.Bool.{Bool, true, false}
+use mathlib.Core.List.{List}
+use lib.ListN.{length}
+use Rattle.std.specs.declared.result.Result.{Result}
+use Rattle.std.specs.declared.result.Result.the-variants.{Ok, Err}
+use Rattle.values.specs.Refusals.{numbered}
+use Rattle.values.specs.declared.refusal.Refusal.{Refusal}
+use Rattle.telegrams.specs.Requests.{Sent, Heard, silence}
+use Rattle.telegrams.specs.Words.{Word-of}
+use Rattle.stations.specs.Stations.{Place}
+use Rattle.stations.specs.Images.{good-image, powered-in, place-at, image-of}
+use Rattle.lines.specs.Lines.{table, line-after, line-reply}
+
+-- Opening a rack: a good image, and nothing else, gives one that means what the words say; its image is those words
+abbrev pub Opened : {R : Type 0} → (R → Bool) → (R → ℕ → Place) → List ℕ → Result R Refusal → Type 0
+Opened power stations ws (Ok r) =
+    (good-image ws ≡ true) × (power r ≡ powered-in ws) × (table (stations r) ≡ table (place-at ws))
+    × (image-of (power r) (table (stations r)) ≡ ws)
+Opened power stations ws (Err e) = (good-image ws ≡ false) × (numbered e ≡ 0x8313)
+
+-- Writing a rack out: into a slice of 33 words goes its image, which is good and says what the rack means; another slice stays as it is
+abbrev pub Written : Bool → (ℕ → Place) → List ℕ → List ℕ → Result (Unit {0}) Refusal → Type 0
+Written power stations ws ws′ (Ok u) =
+    (length ws ≡ 33) × (ws′ ≡ image-of power (table stations)) × (good-image ws′ ≡ true) × (powered-in ws′ ≡ power)
+    × (table (place-at ws′) ≡ table stations)
+Written power stations ws ws′ (Err e) = ((length ws ≡ 33) → ⊥) × (ws′ ≡ ws) × (numbered e ≡ 0x8313)
+
+-- A rack of words takes a telegram: the words then say what the rules make of the request whose word it is. A word that is no
+-- request's is met with silence, and changes nothing.
+pub record Carried (q : Sent) (ws ws′ : List ℕ) (r : Heard) : Type 0 where
+  pub power-kept : powered-in ws′ ≡ powered-in ws
+  pub places-after : table (place-at ws′) ≡ line-after (powered-in ws) q (table (place-at ws))
+  pub replied : r ≡ line-reply (powered-in ws) q (table (place-at ws))
+
+pub record Received (telegram : ℕ) (ws ws′ : List ℕ) (r : Heard) : Type 0 where
+  pub request : (q : Sent) → Word-of q telegram → Carried q ws ws′ r
+  pub no-request : ((q : Sent) → Word-of q telegram → ⊥) → (ws′ ≡ ws) × (r ≡ silence)

@@ -1,0 +1,87 @@
+ghost use mathlib.Core.Path.{_≡_};
+ghost use denote.Ref.{name, now};
+ghost use Rattle.std.specs.declared.result.Result.the-variants.{Ok, Err};
+ghost use Rattle.telegrams.specs.Requests.{sent, heard};
+ghost use Rattle.stations.specs.Images.{powered-in, place-at};
+ghost use Rattle.lines.specs.Racks.{Opened, Carried, Received};
+use super::line::Line;
+use super::rack::Rack;
+use stations::image::POWER_UP;
+use stations::image::STATIONS;
+use stations::image::is_image;
+use stations::station::Station;
+use telegrams::request::Reply;
+use telegrams::request::Request;
+use telegrams::word::decode_request;
+use telegrams::word::encode_request;
+use values::address::Address;
+use values::refusal::Refusal;
+
+/// A rack that holds nothing but the caller's words, and takes each request as its telegram.
+#[derive(Drop)]
+pub struct ImageRack<'a> {
+    words: &'a mut [u32],
+}
+
+impl<'a> ImageRack<'a> {
+    /// A rack that means what the words say.
+    pub fn open(words: &'a mut [u32]) -> Result<ImageRack<'a>, Refusal>
+        ensures opened { λ r. ⌜ Opened (λ i. powered-in (now (i .words))) (λ i. place-at (now (i .words))) (now (words .entry)) r ⌝ }
+        ensures lender { λ r. ⌜ elim r [ Ok i ↦ name (i .words) ≡ name (words .entry) | Err _ ↦ Unit {0} ] ⌝ }
+    {
+        if !is_image(words) {
+            return Err(Refusal::BadImage);
+        }
+        Ok(ImageRack { words })
+    }
+
+    /// A telegram arrives: the addressed station hears the request in it. A word that is no request is met with silence.
+    pub fn receive(&mut self, telegram: u32) -> Reply
+        ensures received { λ r. ⌜ Received telegram (now (now (self .entry) .words)) (now (now (self .exit) .words)) (heard r) ⌝ }
+        ensures lender { λ _. ⌜ name (now (self .exit) .words) ≡ name (now (self .entry) .words) ⌝ }
+    {
+        match decode_request(telegram) {
+            Ok(request) => self.hear(request),
+            Err(_) => Reply::Silence,
+        }
+    }
+
+    fn hear(&mut self, request: Request) -> Reply
+        ensures carried { λ r. ⌜ Carried (sent request) (now (now (self .entry) .words)) (now (now (self .exit) .words)) (heard r) ⌝ }
+        ensures lender { λ _. ⌜ name (now (self .exit) .words) ≡ name (now (self .entry) .words) ⌝ }
+    {
+        if !self.is_powered() {
+            return Reply::Silence;
+        }
+        let address = usize::from(request.address());
+        let mut station = Station::from_word(self.words[address]);
+        let reply = station.hear(request);
+        self.words[address] = station.word();
+        reply
+    }
+}
+
+pub impl Line for ImageRack<'_> as ImageRackLine {
+    ghost power = { λ i. powered-in (now (i .words)) };
+
+    ghost stations = { λ i. place-at (now (i .words)) };
+
+    fn is_powered(&self) -> bool {
+        self.words.len() > STATIONS && self.words[STATIONS] == POWER_UP
+    }
+
+    fn carry(&mut self, request: Request) -> Reply {
+        self.receive(encode_request(request))
+    }
+}
+
+pub impl Rack for ImageRack<'_> as ImageRackRack {
+    fn station(&self, address: Address) -> Station {
+        let a = usize::from(address.get());
+        if a < self.words.len() {
+            Station::from_word(self.words[a])
+        } else {
+            Station { module: None }
+        }
+    }
+}

@@ -1,0 +1,44 @@
+ghost use mathlib.Core.Path.{_≡_};
+ghost use Rattle.lines.specs.Lines.{halved};
+use super::line::Line;
+use telegrams::request::Reply;
+use telegrams::request::Request;
+
+/// Stands over any line and asks once more after a disturbed reply.
+#[derive(Drop)]
+pub struct Repeater<L> {
+    below: L,
+}
+
+impl<L> Repeater<L> {
+    pub fn over(below: L) -> Repeater<L>
+        ensures { λ r. ⌜ r .below ≡ below ⌝ }
+    {
+        Repeater { below }
+    }
+
+    /// The line that it stood over.
+    pub fn into_below(self) -> L
+        ensures { λ r. ⌜ r ≡ self .below ⌝ }
+    {
+        let Repeater { below } = self;
+        below
+    }
+}
+
+pub impl<L: Line> Line for Repeater<L> as RepeaterLine {
+    ghost power = { λ r. L·Line .power (r .below) };
+
+    ghost stations = { λ r a. halved (L·Line .stations (r .below) a) };
+
+    fn is_powered(&self) -> bool {
+        self.below.is_powered()
+    }
+
+    fn carry(&mut self, request: Request) -> Reply {
+        match self.below.carry(request) {
+            Reply::Disturbed => self.below.carry(request),
+            first => first,
+        }
+    }
+}

@@ -12,11 +12,10 @@ pub loop-k-again : need.loop-k-again
 loop-k-again c =
     let bs = c .args .bytes .now in
     let ws = c .loop-k .words in
-    let k = c .loop-k .k in
-    let word : c .word-at .result ≡ word-at bs k = search needs in (
+    let k = c .loop-k .k in (
       subst (λ (w : ℕ). (j : ℕ) → j < k + 1 → getD (set ws k w) j 0 ≡ word-at bs j) (sym (c .word-at .ensures))
           (fill-by-more (word-at bs) ws k 0 (omega (arith, c .loop-k .inv .1)) (c .loop-k .inv .0)),
-      length-set (c .loop-k .words) (c .loop-k .k) (c .word-at .result) ∙ c .loop-k .inv .1,
+      length-set ws k (c .word-at .result) ∙ c .loop-k .inv .1,
     )
 
 pub returns : need.returns

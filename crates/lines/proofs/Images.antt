@@ -15,9 +15,9 @@ use Rattle.stations.specs.declared.station.Station.{Station}
 use Rattle.stations.specs.Stations.{Place, vacant, place-of}
 use Rattle.stations.specs.Images.{place-in, word-of, good-station, good-power, power-word, all-good, good-image, image-of, powered-in, place-at}
 use Rattle.stations.proofs.Words.{word-back, Says, says, each-good, good-each, power-good, power-read}
-use Rattle.lines.specs.Lines.{table}
+use Rattle.values.specs.Tables.{table}
 use Rattle.lines.specs.Racks.{Written}
-use Rattle.lines.proofs.Tables.{length-table, at-table, same-table}
+use Rattle.values.proofs.Tables.{length-table, at-table, same-table}
 
 -- the words below i say their places
 abbrev pub Said : (ℕ → Place) → List ℕ → ℕ → Type 0
@@ -108,3 +108,6 @@ image-back ws good = sym (image-is (powered-in ws) (place-at ws) ws long said to
         (λ e. eqb-true _ _ e ∙ sym (ap power-word e))
         (λ e. let d : getD ws 32 0 ≡ power-word false = eqb-true _ _ e in d ∙ sym (ap (λ (w : ℕ). power-word (eqb w (power-word true))) d))
         (or-cases _ _ (rest .1))
+
+pub good-long : (ws : List ℕ) → good-image ws ≡ true → length ws ≡ 33
+good-long ws good = eqb-true _ _ (and-parts _ _ good .0)

@@ -1,4 +1,5 @@
-pub mod Tables
+pub mod Stores
 pub mod Repeats
 pub mod Images
 pub mod WordRacks
+pub mod Trials

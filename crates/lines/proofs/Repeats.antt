@@ -13,7 +13,7 @@ use Rattle.std.proofs.shelf.Tests.{cases-lt, cases-eq, lt-ltb, le-ltb, cond-tru
 use Rattle.telegrams.specs.Requests.{Asking, Sent, Heard, data-exchange, write-parameter, read-io, read-id, resetting, nibble, silence, disturbed, heard}
 use Rattle.telegrams.specs.declared.request.Reply.{Reply}
 use Rattle.telegrams.specs.declared.request.Reply.the-variants.{Answer, Silence, Disturbed}
-use Rattle.stations.specs.Stations.{State, Place, vacant, occupied, with-disturbance, with-outputs, deaf, port-bits, obeyed, answer, after, reply}
+use Rattle.stations.specs.Stations.{State, Place, vacant, occupied, with-disturbance, with-outputs, exchange-disabled, port-bits, obeyed, answer, after, reply}
 use Rattle.lines.specs.Lines.{at, line-after, line-reply, halved}
 
 -- obeying neither reads nor changes the count
@@ -23,7 +23,7 @@ cond-at true x y d = refl
 cond-at false x y d = refl
 
 obeyed-at : (q : Asking) (x : State) (d : ℕ) → obeyed (with-disturbance d x) q ≡ with-disturbance d (obeyed x q)
-obeyed-at (data-exchange n) x d = cond-at (deaf x) x (with-outputs n x) d
+obeyed-at (data-exchange n) x d = cond-at (exchange-disabled x) x (with-outputs n x) d
 obeyed-at (write-parameter n) x d = refl
 obeyed-at read-io x d = refl
 obeyed-at read-id x d = refl
@@ -38,7 +38,7 @@ answer-at resetting x d = refl
 
 -- an answer is never a disturbance
 answer-clear : (q : Asking) (x : State) → answer x q ≡ disturbed → ⊥
-answer-clear (data-exchange n) x e = cond-clear (deaf x) e
+answer-clear (data-exchange n) x e = cond-clear (exchange-disabled x) e
   where
     cond-clear : (b : Bool) → cond b silence (nibble (port-bits n x)) ≡ disturbed → ⊥
     cond-clear true h = let z : _≡_ {A = ℕ} 0 1 = cc in omega arith

@@ -8,15 +8,16 @@ use native.Mathlib.Omega.{arith}
 use lib.Dec.{eqb}
 use lib.ListN.{length, getD, set}
 use Rattle.std.proofs.shelf.Lists.{getD-past, getD-set-other}
-use Rattle.std.proofs.shelf.Tests.{cases-lt, both-ways}
+use Rattle.std.proofs.shelf.Tests.{cases-lt, both-ways, cond-true, cond-false}
 use Rattle.telegrams.specs.Requests.{Sent, Heard, silence}
 use Rattle.stations.specs.declared.station.Station.{Station}
 use Rattle.stations.specs.Stations.{Place, place-of, after, reply}
-use Rattle.lines.specs.Lines.{table, line-after, line-reply}
+use Rattle.values.specs.Tables.{table}
+use Rattle.lines.specs.Lines.{line-after, line-reply}
 use Rattle.stations.specs.Images.{place-in, word-of, power-word, powered-in, place-at}
 use Rattle.lines.specs.Racks.{Carried}
 use Rattle.stations.proofs.Words.{says}
-use Rattle.lines.proofs.Tables.{carried, replied, unpowered}
+use Rattle.lines.proofs.Stores.{carried, replied, unpowered}
 
 pub short-unpowered : (ws : List ℕ) → length ws ≤ 32 → powered-in ws ≡ false
 short-unpowered ws h = ap (λ (w : ℕ). eqb w (power-word true)) (getD-past ws 32 0 h)
@@ -27,6 +28,7 @@ powered-long ws up = ⊎-elim (λ h. h) (λ h. absurd (both-ways _ (short-unpowe
 pub carried-unpowered : (q : Sent) (ws : List ℕ) → powered-in ws ≡ false → Carried q ws ws silence
 carried-unpowered q ws down =
     record {
+      words-after = sym (cond-false (powered-in ws) _ ws down);
       power-kept = refl;
       places-after = unpowered q (table (place-at ws)) ∙ ap (λ (p : Bool). line-after p q (table (place-at ws))) (sym down);
       replied = ap (λ (p : Bool). line-reply p q (table (place-at ws))) (sym down);
@@ -37,8 +39,14 @@ carried-by-word q ws b w s s′ r up to inside read heard answered written =
     let long = powered-long ws up in
     let means : place-in w ≡ after true (place-at ws b) (q .asking) =
     ap place-in written ∙ says (s′ .«module») .0 ∙ heard ∙ ap (λ (p : Place). after true p (q .asking)) read in
+    let there : set ws b (word-of (after true (place-at ws b) (q .asking))) ≡ set ws (q .to) (word-of (after true (place-at ws (q .to)) (q .asking))) =
+    ap (λ (a : ℕ). set ws a (word-of (after true (place-at ws a) (q .asking)))) to in
     let power : powered-in (set ws b w) ≡ powered-in ws = ap (λ (v : ℕ). eqb v (power-word true)) (getD-set-other ws b 32 w 0 (λ e. omega arith)) in
     record {
+      words-after =
+          ap (set ws b) (written ∙ ap word-of (heard ∙ ap (λ (p : Place). after true p (q .asking)) read))
+          ∙ there
+          ∙ sym (cond-true (powered-in ws) _ ws up);
       power-kept = power;
       places-after = carried place-in 0 ws b (getD ws b 0) w q to inside (omega arith) refl means ∙ ap (λ (p : Bool). line-after p q (table (place-at ws))) (sym up);
       replied =

@@ -2,17 +2,12 @@
 -- A request changes at most the addressed station, by the rules of one station.
 use Prim.Native.Nat.{ℕ, _/_}
 use mathlib.Core.Bool.{Bool}
-use mathlib.Core.List.{List, map}
+use mathlib.Core.List.{List}
 use lib.ListN.{getD, set}
-use Rattle.std.specs.Iters.{counting}
 use Rattle.std.specs.declared.option.Option.the-variants.{None}
 use Rattle.telegrams.specs.Requests.{Sent, Heard}
 use Rattle.stations.specs.declared.station.Station.{Station}
 use Rattle.stations.specs.Stations.{Place, vacant, occupied, with-disturbance, place-of, after, reply}
-
--- one entry for each address
-unfoldable pub table : {A : Type 0} → (ℕ → A) → List A
-table f = map f (counting 0 32)
 
 abbrev pub at : List Place → ℕ → Place
 at ps a = getD ps a vacant

@@ -1,7 +1,8 @@
 ghost use mathlib.Core.Path.{_≡_};
 ghost use Prim.Native.Nat.{_<_};
 ghost use lib.ListN.{length};
-ghost use Rattle.lines.specs.Lines.{table, station-at};
+ghost use Rattle.values.specs.Tables.{table};
+ghost use Rattle.lines.specs.Lines.{station-at};
 ghost use Rattle.stations.specs.Images.{place-at};
 ghost use Rattle.lines.specs.Racks.{Opened};
 use super::line::Line;

@@ -3,6 +3,8 @@ ghost use denote.Ref.{name, now};
 ghost use Rattle.std.specs.declared.result.Result.the-variants.{Ok, Err};
 ghost use Rattle.telegrams.specs.Requests.{sent, heard};
 ghost use Rattle.stations.specs.Images.{powered-in, place-at};
+ghost use Rattle.values.specs.Tables.{table};
+ghost use Rattle.lines.specs.Lines.{line-after, line-reply};
 ghost use Rattle.lines.specs.Racks.{Opened, Carried, Received};
 use super::line::Line;
 use super::rack::Rack;
@@ -27,12 +29,21 @@ impl<'a> ImageRack<'a> {
     /// A rack that means what the words say.
     pub fn open(words: &'a mut [u32]) -> Result<ImageRack<'a>, Refusal>
         ensures opened { λ r. ⌜ Opened (λ i. powered-in (now (i .words))) (λ i. place-at (now (i .words))) (now (words .entry)) r ⌝ }
+        ensures holds { λ r. ⌜ elim r [ Ok i ↦ now (i .words) ≡ now (words .entry) | Err _ ↦ Unit {0} ] ⌝ }
         ensures lender { λ r. ⌜ elim r [ Ok i ↦ name (i .words) ≡ name (words .entry) | Err _ ↦ Unit {0} ] ⌝ }
     {
         if !is_image(words) {
             return Err(Refusal::BadImage);
         }
         Ok(ImageRack { words })
+    }
+
+    /// A rack over words that the caller has tested.
+    pub(crate) fn over(words: &'a mut [u32]) -> ImageRack<'a>
+        ensures holds { λ r. ⌜ now (r .words) ≡ now (words .entry) ⌝ }
+        ensures lender { λ r. ⌜ name (r .words) ≡ name (words .entry) ⌝ }
+    {
+        ImageRack { words }
     }
 
     /// A telegram arrives: the addressed station hears the request in it. A word that is no request is met with silence.
@@ -70,7 +81,13 @@ pub impl Line for ImageRack<'_> as ImageRackLine {
         self.words.len() > STATIONS && self.words[STATIONS] == POWER_UP
     }
 
-    fn carry(&mut self, request: Request) -> Reply {
+    fn carry(&mut self, request: Request) -> Reply
+        ensures power { λ _. ⌜ powered-in (now (now (self .exit) .words)) ≡ powered-in (now (now (self .entry) .words)) ⌝ }
+        ensures after { λ _. ⌜ table (place-at (now (now (self .exit) .words))) ≡ line-after (powered-in (now (now (self .entry) .words))) (sent request) (table (place-at (now (now (self .entry) .words)))) ⌝ }
+        ensures reply { λ r. ⌜ heard r ≡ line-reply (powered-in (now (now (self .entry) .words))) (sent request) (table (place-at (now (now (self .entry) .words)))) ⌝ }
+        ensures carried { λ r. ⌜ Carried (sent request) (now (now (self .entry) .words)) (now (now (self .exit) .words)) (heard r) ⌝ }
+        ensures lender { λ _. ⌜ name (now (self .exit) .words) ≡ name (now (self .entry) .words) ⌝ }
+    {
         self.receive(encode_request(request))
     }
 }

@@ -5,3 +5,4 @@ pub mod image_rack;
 pub mod line;
 pub mod rack;
 pub mod repeater;
+pub mod trial;

@@ -3,7 +3,8 @@ ghost use mathlib.Core.Path.{_≡_};
 ghost use Prim.Native.Nat.{ℕ};
 ghost use Rattle.telegrams.specs.Requests.{sent, heard};
 ghost use Rattle.stations.specs.Stations.{Place};
-ghost use Rattle.lines.specs.Lines.{table, line-after, line-reply};
+ghost use Rattle.values.specs.Tables.{table};
+ghost use Rattle.lines.specs.Lines.{line-after, line-reply};
 use telegrams::request::Reply;
 use telegrams::request::Request;
 

@@ -8,7 +8,7 @@ use stations::station::Station;
 use values::address::Address;
 use values::refusal::Refusal;
 
-/// A line that stands before us: what is at each station can be read off and written out.
+/// A line whose stations can be read directly and written out as an image.
 pub trait Rack: Line {
     fn station(&self, address: Address) -> Station
         ensures { λ r. ⌜ place-of r ≡ Self·Line .stations (now (self .entry)) (address .value) ⌝ };

@@ -1,5 +1,5 @@
 -- What stands at the stations of a line, and what a request does there: the rules of one module, in their order.
--- A reader compares `obeyed` and `hear` with the rules in docs/LINES.md, line by line; nothing else is said of a module.
+-- A reader compares `obeyed`, `answer`, `after` and `reply` with the rules in docs/LINES.md, line by line; nothing else is said of a module.
 use Prim.Native.Nat.{ℕ, _-_}
 use mathlib.Core.Bool.{Bool, true, false, cond, not, _||_}
 use lib.Bits.{bitAnd, bitOr}
@@ -69,22 +69,22 @@ after-reset x =
 -- The rules of an undisturbed module with power
 
 -- it takes no data without its mark, and none with I/O code 15
-abbrev pub deaf : State → Bool
-deaf x = not (x .enabled) || eqb (x .io) 15
+abbrev pub exchange-disabled : State → Bool
+exchange-disabled x = not (x .enabled) || eqb (x .io) 15
 
 -- each bit is n's where the direction is one, else the inputs'
 abbrev pub port-bits : ℕ → State → ℕ
 port-bits n x = bitOr (bitAnd n (x .direction)) (bitAnd (x .inputs) (15 - x .direction))
 
 abbrev pub obeyed : State → Asking → State
-obeyed x (data-exchange n) = cond (deaf x) x (with-outputs n x)
+obeyed x (data-exchange n) = cond (exchange-disabled x) x (with-outputs n x)
 obeyed x (write-parameter n) = with-parameter n x
 obeyed x read-io = x
 obeyed x read-id = x
 obeyed x resetting = after-reset x
 
 abbrev pub answer : State → Asking → Heard
-answer x (data-exchange n) = cond (deaf x) silence (nibble (port-bits n x))
+answer x (data-exchange n) = cond (exchange-disabled x) silence (nibble (port-bits n x))
 answer x (write-parameter n) = nibble n
 answer x read-io = nibble (x .io)
 answer x read-id = nibble (x .id)

@@ -2,7 +2,7 @@ use native.Mathlib.Omega.{arith}
 use Rattle.stations.specs.Stations.{vacant}
 use Rattle.lines.specs.Lines.{station-at}
 use Rattle.stations.specs.Images.{place-at}
-use Rattle.lines.proofs.Tables.{same-table}
+use Rattle.values.proofs.Tables.{same-table}
 use Rattle.lines.proofs.bench.stations_in.Needs as need
 
 pub returns : need.returns

@@ -6,8 +6,9 @@ use native.Mathlib.Omega.{arith}
 use Rattle.std.proofs.shelf.Lists.{getD-read}
 use Rattle.telegrams.specs.Requests.{sent}
 use Rattle.stations.specs.Stations.{place-of}
-use Rattle.lines.specs.Lines.{empty-station, table, station-at}
-use Rattle.lines.proofs.Tables.{carried, replied, unpowered}
+use Rattle.values.specs.Tables.{table}
+use Rattle.lines.specs.Lines.{empty-station, station-at}
+use Rattle.lines.proofs.Stores.{carried, replied, unpowered}
 use Rattle.lines.proofs.bench.BenchRackLine.carry.Needs as need
 
 pub returns-then-not-is-powered : need.returns-then-not-is-powered

@@ -8,4 +8,4 @@ pub returns : need.returns
 returns c =
     let ws = c .args .words .now in
     let good : good-image ws ≡ true = sym (c .is-image .ensures .is) ∙ c .if-not-is-image .left in
-    record { opened = (good, refl, refl, image-back ws good); lender = refl }
+    record { opened = (good, refl, refl, image-back ws good); holds = refl; lender = refl }

@@ -1,7 +1,8 @@
 use mathlib.Core.Path.{sym, ap, _∙_}
 use Rattle.telegrams.specs.Requests.{sent, heard}
-use Rattle.lines.specs.Lines.{halved, table}
-use Rattle.lines.proofs.Tables.{map-table}
+use Rattle.values.specs.Tables.{table}
+use Rattle.lines.specs.Lines.{halved}
+use Rattle.values.proofs.Tables.{map-table}
 use Rattle.lines.proofs.Repeats.{passed-once, passed-twice, heard-disturbed}
 use Rattle.lines.proofs.repeater.RepeaterLine.carry.Needs as need
 

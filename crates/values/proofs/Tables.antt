@@ -1,18 +1,15 @@
--- A table has one entry for each address, and a write to one place of a store is a write to one entry of what it means.
+-- Tables: their length, their entries, when two are equal, and a write to one place of a store.
 use Prim.Native.Nat.{ℕ, _<_}
 use mathlib.Core.Path.{_≡_, refl, ap, sym, _∙_}
-use mathlib.Core.Bool.{true, false}
 use mathlib.Core.List.{List, [], _∷_, map}
 use mathlib.Core.Logic.{⊎-elim}
 use native.Mathlib.Omega.{arith}
 use lib.ListN.{length, getD, set}
 use Rattle.std.specs.Iters.{counting}
 use Rattle.std.proofs.shelf.Counted.{fill-by-all, getD-map-counting, length-map-counting}
-use Rattle.std.proofs.shelf.Lists.{length-set, getD-set-same, getD-set-other, set-getD}
+use Rattle.std.proofs.shelf.Lists.{length-set, getD-set-same, getD-set-other}
 use Rattle.std.proofs.shelf.Tests.{cases-eq}
-use Rattle.telegrams.specs.Requests.{Sent}
-use Rattle.stations.specs.Stations.{Place, vacant, after, reply}
-use Rattle.lines.specs.Lines.{table, at, line-after, line-reply}
+use Rattle.values.specs.Tables.{table}
 
 pub length-table : {X : Type 0} (f : ℕ → X) → length (table f) ≡ 32
 unfolding table
@@ -61,17 +58,3 @@ table-set {A} {B} f xs b v d inside stored =
         getD-set-other before b k (f v) (f d) ne
         ∙ at-table (λ a. f (getD xs a d)) k (f d) h
         ∙ ap f (sym (getD-set-other xs b k v d ne))
-
--- A rack keeps its stations in a store: f says what an element means, d stands past the end.
--- Where the addressed element x became v by hearing a request, the line did.
-pub carried : {A : Type 0} (f : A → Place) (d : A) (xs : List A) (b : ℕ) (x v : A) (q : Sent) → b ≡ q .to → b < 32 → b < length xs → x ≡ getD xs b d → f v ≡ after true (f x) (q .asking) → table (λ a. f (getD (set xs b v) a d)) ≡ line-after true q (table (λ a. f (getD xs a d)))
-carried f d xs b x v q to inside stored read heard =
-    let there = at-table (λ a. f (getD xs a d)) b vacant inside in
-    let written = table-set f xs b v d inside stored in
-    cc
-
-pub replied : {A : Type 0} (f : A → Place) (d : A) (xs : List A) (b : ℕ) (x : A) (q : Sent) → b ≡ q .to → b < 32 → x ≡ getD xs b d → reply true (f x) (q .asking) ≡ line-reply true q (table (λ a. f (getD xs a d)))
-replied f d xs b x q to inside read = let there = at-table (λ a. f (getD xs a d)) b vacant inside in cc
-
-pub unpowered : (q : Sent) (ps : List Place) → ps ≡ line-after false q ps
-unpowered q ps = sym (set-getD ps (q .to) vacant)

@@ -1,14 +1,16 @@
 -- Tables: their length, their entries, when two are equal, and a write to one place of a store.
-use Prim.Native.Nat.{ℕ, _<_}
+use Prim.Native.Nat.{ℕ, _+_, _<_, _≤_}
 use mathlib.Core.Path.{_≡_, refl, ap, sym, _∙_}
+use mathlib.Core.Bool.{cond}
 use mathlib.Core.List.{List, [], _∷_, map}
 use mathlib.Core.Logic.{⊎-elim}
 use native.Mathlib.Omega.{arith}
+use lib.Dec.{ltb}
 use lib.ListN.{length, getD, set}
 use Rattle.std.specs.Iters.{counting}
 use Rattle.std.proofs.shelf.Counted.{fill-by-all, getD-map-counting, length-map-counting}
 use Rattle.std.proofs.shelf.Lists.{length-set, getD-set-same, getD-set-other}
-use Rattle.std.proofs.shelf.Tests.{cases-eq}
+use Rattle.std.proofs.shelf.Tests.{cases-eq, cases-lt, lt-ltb, le-ltb, cond-true, cond-false}
 use Rattle.values.specs.Tables.{table}
 
 pub length-table : {X : Type 0} (f : ℕ → X) → length (table f) ≡ 32
@@ -58,3 +60,38 @@ table-set {A} {B} f xs b v d inside stored =
         getD-set-other before b k (f v) (f d) ne
         ∙ at-table (λ a. f (getD xs a d)) k (f d) h
         ∙ ap f (sym (getD-set-other xs b k v d ne))
+
+-- a table that differs from another at one address is that one, written there
+pub table-write : {X : Type 0} (f g : ℕ → X) (b : ℕ) (v d : X) → b < 32 → g b ≡ v → ((k : ℕ) → k < 32 → (k ≡ b → ⊥) → g k ≡ f k) → table g ≡ set (table f) b v
+table-write f g b v d inside here elsewhere =
+    sym (is-table g (set (table f) b v) d (length-set (table f) b v ∙ length-table f) (λ k h. ⊎-elim (same k) (other k h) (cases-eq k b)))
+  where
+    same : (k : ℕ) → k ≡ b → getD (set (table f) b v) k d ≡ g k
+    same k e =
+        ap (λ z. getD (set (table f) b v) z d) e
+        ∙ getD-set-same (table f) b v d (omega (arith, length-table f))
+        ∙ sym here
+        ∙ ap g (sym e)
+
+    other : (k : ℕ) → k < 32 → (k ≡ b → ⊥) → getD (set (table f) b v) k d ≡ g k
+    other k h ne = getD-set-other (table f) b k v d ne ∙ at-table f k d h ∙ sym (elsewhere k h ne)
+
+-- A loop that goes through the addresses: those below i have their new entry
+
+abbrev pub filling : {X : Type 0} → ℕ → (ℕ → X) → (ℕ → X) → ℕ → X
+filling i new old a = cond (ltb a i) (new a) (old a)
+
+pub fill-more : {X : Type 0} (new old : ℕ → X) (i : ℕ) (d : X) → i < 32 → set (table (filling i new old)) i (new i) ≡ table (filling (i + 1) new old)
+fill-more new old i d h =
+    sym (table-write (filling i new old) (filling (i + 1) new old) i (new i) d h (cond-true _ (new i) (old i) (lt-ltb i (i + 1) (omega arith)))
+      (λ k l ne. ⊎-elim
+        (λ lt. cond-true _ (new k) (old k) (lt-ltb k (i + 1) (omega arith)) ∙ sym (cond-true _ (new k) (old k) (lt-ltb k i lt)))
+        (λ ge. cond-false _ (new k) (old k) (le-ltb k (i + 1) (omega arith)) ∙ sym (cond-false _ (new k) (old k) (le-ltb k i ge)))
+        (cases-lt k i)))
+
+pub fill-all : {X : Type 0} (new old : ℕ → X) (d : X) → table (filling 32 new old) ≡ table new
+fill-all new old d = same-table (filling 32 new old) new d (λ k h. cond-true _ (new k) (old k) (lt-ltb k 32 h))
+
+-- the address that comes next still has its old entry
+pub at-filling : {X : Type 0} (new old : ℕ → X) (i : ℕ) (d : X) → i < 32 → getD (table (filling i new old)) i d ≡ old i
+at-filling new old i d h = at-table (filling i new old) i d h ∙ cond-false _ (new i) (old i) (le-ltb i i (omega arith))

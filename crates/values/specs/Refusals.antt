@@ -1,6 +1,7 @@
 -- The numbers that a refused call returns, and what a call comes to.
 -- The numbers are those of the product's table of returns (docs/REFUSALS.md); a reader compares the two, row by row.
 use Prim.Native.Nat.{ℕ}
+use mathlib.Core.Bool.{Bool, true, false}
 use Rattle.std.specs.declared.result.Result.{Result}
 use Rattle.std.specs.declared.result.Result.the-variants.{Ok, Err}
 use Rattle.values.specs.declared.refusal.Cause.{Cause}
@@ -51,3 +52,7 @@ refuses n = refuses-for n 0
 abbrev pub outcome : {A B : Type 0} → (A → B) → Result A Refusal → Outcome B
 outcome f (Ok x) = gives (f x)
 outcome f (Err e) = refuses-for (numbered e) (caused e)
+
+abbrev pub accepts : {A : Type 0} → Outcome A → Bool
+accepts (gives x) = true
+accepts (refuses-for n c) = false

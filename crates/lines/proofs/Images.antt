@@ -13,9 +13,11 @@ use Rattle.std.proofs.shelf.Tests.{eq-eqb, eqb-true, and-parts, and-from, or-ca
 use Rattle.std.specs.declared.result.Result.the-variants.{Ok}
 use Rattle.stations.specs.declared.station.Station.{Station}
 use Rattle.stations.specs.Stations.{Place, vacant, place-of}
-use Rattle.stations.specs.Images.{place-in, word-of, good-station, good-power, power-word, all-good, good-image, image-of, powered-in, place-at}
-use Rattle.stations.proofs.Words.{word-back, Says, says, each-good, good-each, power-good, power-read}
+use Rattle.stations.specs.Images.{place-in, word-of, good-station, good-power, power-word, good-image, image-of, powered-in, place-at}
+use Rattle.stations.proofs.Words.{word-back, Says, says, power-good, power-read}
 use Rattle.values.specs.Tables.{table}
+use Rattle.values.specs.Tests.{every}
+use Rattle.values.proofs.Tests.{every-from, every-at}
 use Rattle.lines.specs.Racks.{Written}
 use Rattle.values.proofs.Tables.{length-table, at-table, same-table}
 
@@ -56,7 +58,7 @@ module _ (power : Bool) (stations : ℕ → Place) (ws : List ℕ) (long : lengt
   pub image-good : ((k : ℕ) → k < 32 → Says (stations k)) → good-image ws ≡ true
   image-good ok =
       and-from _ _ (eq-eqb _ _ long)
-      (and-from _ _ (each-good (take 32 ws) (λ k l. each k (omega (arith, length-take 32 ws)))) (ap good-power top ∙ power-good power))
+      (and-from _ _ (every-from good-station 0 (take 32 ws) (λ k l. each k (omega (arith, length-take 32 ws)))) (ap good-power top ∙ power-good power))
     where
       each : (k : ℕ) → k < 32 → good-station (getD (take 32 ws) k 0) ≡ true
       each k h = ap good-station (getD-take 32 ws k 0 h ∙ said k h) ∙ ok k h .1
@@ -96,12 +98,12 @@ image-back ws good = sym (image-is (powered-in ws) (place-at ws) ws long said to
     long : length ws ≡ 33
     long = eqb-true _ _ (and-parts _ _ good .0)
 
-    rest : (all-good (take 32 ws) ≡ true) × (good-power (getD ws 32 0) ≡ true)
-    rest = and-parts (all-good (take 32 ws)) (good-power (getD ws 32 0)) (and-parts (eqb (length ws) 33) (all-good (take 32 ws) && good-power (getD ws 32 0)) good .1)
+    rest : (every good-station (take 32 ws) ≡ true) × (good-power (getD ws 32 0) ≡ true)
+    rest = and-parts (every good-station (take 32 ws)) (good-power (getD ws 32 0)) (and-parts (eqb (length ws) 33) (every good-station (take 32 ws) && good-power (getD ws 32 0)) good .1)
 
     said : (k : ℕ) → k < 32 → getD ws k 0 ≡ word-of (place-at ws k)
     said k h =
-        sym (word-back (getD ws k 0) (ap good-station (sym (getD-take 32 ws k 0 h)) ∙ good-each (take 32 ws) (rest .0) k (omega (arith, long, length-take 32 ws))))
+        sym (word-back (getD ws k 0) (ap good-station (sym (getD-take 32 ws k 0 h)) ∙ every-at good-station 0 (take 32 ws) (rest .0) k (omega (arith, long, length-take 32 ws))))
 
     top : getD ws 32 0 ≡ power-word (powered-in ws)
     top = ⊎-elim

@@ -27,6 +27,7 @@ module _ (f : ℕ → Row) where
           sym (at-table f k new-row h)
           ∙ sym (cond-true _ (old k) (copied (old k)) (eq-eqb k 0 (omega arith)))
           ∙ sym (cond-true _ (new k) (old k) (lt-ltb k 1 z))
+
       later : (k : ℕ) → k < 32 → 1 ≤ k → f k ≡ filling 1 new old k
       later k h z = sym (at-table f k new-row h) ∙ sym (cond-false _ (new k) (old k) (le-ltb k 1 z))
 
@@ -36,7 +37,7 @@ module _ (f : ℕ → Row) where
       ∙ ap (λ (n : ℕ). set rs n (copied (row-at n rs))) to
       ∙ ap (λ (l : List Row). set l i (copied (row-at i l))) so-far
       ∙ ap (λ (r : Row). set (table (filling i new old)) i r)
-        (ap copied (at-filling new old i new-row high) ∙ sym (cond-false _ (old i) (copied (old i)) (ne-eqb i 0 (λ e. omega arith))))
+      (ap copied (at-filling new old i new-row high) ∙ sym (cond-false _ (old i) (copied (old i)) (ne-eqb i 0 (λ e. omega arith))))
       ∙ fill-more new old i new-row high
 
   pub take-over-ends : (i : ℕ) (rs : List Row) → i ≡ 32 → rs ≡ table (filling i new old) → rs ≡ table (λ k. taken-over k (row-at k (table f)))

@@ -12,7 +12,7 @@ use Rattle.values.specs.declared.nibble.Nibble.{Nibble}
 use Rattle.lists.specs.Members.{has, placed}
 use Rattle.lists.proofs.Laws.{has-none, has-placed-same, has-placed-other}
 use Rattle.records.specs.Rows.{Row, new-row, new-rows, row-at}
-use Rattle.records.specs.Records.{pair-of, row-of, listed, row-in}
+use Rattle.records.specs.Records.{pair-of, row-of, with-entry, listed, row-in}
 use Rattle.records.specs.Edits.{planned, copied}
 use Rattle.records.specs.declared.entry.Codes.{Codes}
 use Rattle.records.specs.declared.entry.Entry.{Entry}
@@ -68,8 +68,8 @@ pub planned-rows : (lds las lps : ℕ) (es : List Entry) (a : ℕ) (e : Entry) (
 planned-rows lds las lps es a e projected codes parameter inside sized read =
     rows-written lds las lps lds las (placed projected lps a) es a (replanned codes parameter e) inside sized (λ k h ne. refl) (λ k h ne. refl) (λ k h ne. has-placed-other projected lps a k inside h ne)
     ∙ ap (set (table (row-in lds las lps es)) a)
-      (ap (λ (b : Bool). row-of (has lds a) (has las a) b (replanned codes parameter e)) (has-placed-same projected lps a inside)
-        ∙ sym (ap (planned projected (pair-of codes) (parameter .value)) (row-read lds las lps es a e inside (omega arith) read)))
+    (ap (λ (b : Bool). row-of (has lds a) (has las a) b (replanned codes parameter e)) (has-placed-same projected lps a inside)
+    ∙ sym (ap (planned projected (pair-of codes) (parameter .value)) (row-read lds las lps es a e inside (omega arith) read)))
 
 -- the same for an index and a word that equal those
 pub planned-at : (lds las lps lps′ : ℕ) (es : List Entry) (i a : ℕ) (e : Entry) (projected : Bool) (codes : Codes) (parameter : Nibble) → i ≡ a → lps′ ≡ placed projected lps a → i < 32 → length es ≡ 32 → e ≡ getD es i e → table (row-in lds las lps′ (set es i (replanned codes parameter e))) ≡ set (table (row-in lds las lps es)) a (planned projected (pair-of codes) (parameter .value) (row-at a (table (row-in lds las lps es))))
@@ -84,3 +84,20 @@ copied-is rs rs′ a d x p detected e is same written =
     written
     ∙ ap (λ (b : Bool). set rs a (planned b (pair-of (e .cdi)) (e .pi .value) (row-at a rs))) same
     ∙ ap (set rs a) (ap (planned d (pair-of (e .cdi)) (e .pi .value)) is ∙ sym (ap copied is))
+
+-- an entry that is read is that of its row
+pub entry-read : (lds las lps : ℕ) (es : List Entry) (i a : ℕ) (e : Entry) → i ≡ a → i < 32 → length es ≡ 32 → e ≡ getD es i e → with-entry e (row-at a (table (row-in lds las lps es))) ≡ row-at a (table (row-in lds las lps es))
+entry-read lds las lps es i a e to inside sized read =
+    let row : row-at a (table (row-in lds las lps es)) ≡ row-of (has lds a) (has las a) (has lps a) e =
+    row-read lds las lps es a e (omega arith) (omega arith) (read ∙ ap (λ (n : ℕ). getD es n e) to) in
+    ap (with-entry e) row ∙ sym row
+
+-- an entry that is written changes the values of its row
+pub entry-written : (lds las lps : ℕ) (es : List Entry) (i a : ℕ) (e : Entry) → i ≡ a → i < 32 → length es ≡ 32 → table (row-in lds las lps (set es i e)) ≡ set (table (row-in lds las lps es)) a (with-entry e (row-at a (table (row-in lds las lps es))))
+entry-written lds las lps es i a e to inside sized =
+    rows-written lds las lps lds las lps es i e inside sized (λ k h ne. refl) (λ k h ne. refl) (λ k h ne. refl)
+    ∙ ap (set (table (row-in lds las lps es)) i) (sym (ap (with-entry e) (at-table (row-in lds las lps es) i new-row inside)))
+    ∙ ap (λ (n : ℕ). set (table (row-in lds las lps es)) n (with-entry e (row-at n (table (row-in lds las lps es))))) to
+
+pub row-is : (lds las lps : ℕ) (es : List Entry) (a : ℕ) → a < 32 → row-at a (table (row-in lds las lps es)) ≡ row-in lds las lps es a
+row-is lds las lps es a h = at-table (row-in lds las lps es) a new-row h

@@ -8,9 +8,9 @@ use lib.Dec.{eqb, ltb}
 use lib.ListN.{set}
 use Rattle.values.specs.Refusals.{Outcome, gives, refuses, accepts}
 use Rattle.values.specs.Tables.{table}
-use Rattle.records.specs.Rows.{Pair, Row, no-codes, row-at}
+use Rattle.records.specs.Rows.{Pair, Row, no-codes, row-at, is-module-address}
+use Rattle.records.specs.Modes.{in-configuration}
 use Rattle.records.specs.declared.record.Mode.{Mode}
-use Rattle.records.specs.declared.record.Mode.the-variants.{Configuration, Protected}
 
 pub data Edit : Type 0 where
   -- an address, its I/O and ID code, and its permanent parameter
@@ -20,17 +20,13 @@ pub data Edit : Type 0 where
 
 -- Refusals
 
-abbrev pub in-configuration : Mode → Bool
-in-configuration Configuration = true
-in-configuration Protected = false
-
 abbrev pub by-mode : Mode → Outcome (Unit {0})
 by-mode mode = cond (in-configuration mode) (gives tt) (refuses 0x8384)
 
 abbrev pub edit-outcome : Mode → Edit → Outcome (Unit {0})
 edit-outcome mode (projecting a io id pp) =
-    cond (ltb 0 a && ltb a 32) (cond (ltb io 16 && (ltb id 16 && ltb pp 16)) (by-mode mode) (refuses 0x8310)) (refuses 0x8381)
-edit-outcome mode (unprojecting a) = cond (ltb 0 a && ltb a 32) (by-mode mode) (refuses 0x8381)
+    cond (is-module-address a) (cond (ltb io 16 && (ltb id 16 && ltb pp 16)) (by-mode mode) (refuses 0x8310)) (refuses 0x8381)
+edit-outcome mode (unprojecting a) = cond (is-module-address a) (by-mode mode) (refuses 0x8381)
 edit-outcome mode taking-over = by-mode mode
 
 -- What an edit does

@@ -29,6 +29,10 @@ row-of detected active projected e =
       misses = e .misses;
     }
 
+-- a row with the values of an entry, as the lists have it
+abbrev pub with-entry : Entry → Row → Row
+with-entry e r = row-of (r .detected) (r .active) (r .projected) e
+
 abbrev pub listed : Bool → Bool → Bool → Row → Row
 listed detected active projected r =
     record {

@@ -1,10 +1,13 @@
 -- The record as the rules speak of it: a row for each address, with its place in the three lists and its values.
 -- Nothing here knows how the program stores them.
-use Prim.Native.Nat.{ℕ}
-use mathlib.Core.Bool.{Bool, true, false}
+use Prim.Native.Nat.{ℕ, _-_}
+use mathlib.Core.Bool.{Bool, true, false, cond, not, _&&_}
 use mathlib.Core.List.{List}
-use lib.ListN.{getD}
+use lib.Dec.{eqb, ltb}
+use lib.ListN.{getD, set}
+use Rattle.values.specs.Refusals.{Outcome, gives, refuses, accepts}
 use Rattle.values.specs.Tables.{table}
+use Rattle.values.specs.Tests.{every}
 
 -- an I/O code and an ID code
 pub record Pair : Type 0 where
@@ -47,3 +50,46 @@ new-rows = table (λ a. new-row)
 
 abbrev pub row-at : ℕ → List Row → Row
 row-at a rs = getD rs a new-row
+
+-- Writing outputs: what the controller gives is stored inverted, 15 less the nibble
+
+abbrev pub with-odi : ℕ → Row → Row
+with-odi n r =
+    record {
+      detected = r .detected;
+      active = r .active;
+      projected = r .projected;
+      cdi = r .cdi;
+      pcd = r .pcd;
+      pi = r .pi;
+      pp = r .pp;
+      idi = r .idi;
+      odi = n;
+      misses = r .misses;
+    }
+
+abbrev pub is-module-address : ℕ → Bool
+is-module-address a = ltb 0 a && ltb a 32
+
+abbrev pub outputs-outcome : ℕ → ℕ → Outcome (Unit {0})
+outputs-outcome a n = cond (is-module-address a) (cond (ltb n 16) (gives tt) (refuses 0x8310)) (refuses 0x8381)
+
+abbrev pub outputs-after : ℕ → ℕ → List Row → List Row
+outputs-after a n rs = cond (accepts (outputs-outcome a n)) (set rs a (with-odi (15 - n) (row-at a rs))) rs
+
+-- Reading inputs
+
+abbrev pub inputs-outcome : ℕ → List Row → Outcome ℕ
+inputs-outcome a rs = cond (is-module-address a) (gives (row-at a rs .idi)) (refuses 0x8381)
+
+-- Config_OK: 0 is not in LDS, LDS equals LPS, and CDI equals PCD on them
+
+abbrev pub same-codes : Pair → Pair → Bool
+same-codes p q = eqb (p .io) (q .io) && eqb (p .id) (q .id)
+
+-- an address in both lists with the same codes, or in neither
+abbrev pub agreeing : Row → Bool
+agreeing r = cond (r .detected) (r .projected && same-codes (r .cdi) (r .pcd)) (not (r .projected))
+
+abbrev pub config-ok : List Row → Bool
+config-ok rs = not (row-at 0 rs .detected) && every agreeing rs

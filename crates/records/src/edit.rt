@@ -44,7 +44,12 @@ impl Record {
         if let Mode::Protected = self.mode {
             return Err(Refusal::WrongPhase);
         }
-        self.plan(Address::low(u32::from(to.get())), true, Codes { io, id }, parameter);
+        self.plan(
+            Address::low(u32::from(to.get())),
+            true,
+            Codes { io, id },
+            parameter,
+        );
         Ok(())
     }
 
@@ -59,7 +64,12 @@ impl Record {
             return Err(Refusal::WrongPhase);
         }
         let full = Nibble::low(15);
-        self.plan(Address::low(u32::from(to.get())), false, Codes { io: full, id: full }, full);
+        self.plan(
+            Address::low(u32::from(to.get())),
+            false,
+            Codes { io: full, id: full },
+            full,
+        );
         Ok(())
     }
 

@@ -73,7 +73,13 @@ impl Projection<'_> {
 }
 
 /// Opens a projection, projects one address and closes it again, in whatever mode the record is.
-pub fn project_once(target: &mut Record, address: u32, io: u32, id: u32, parameter: u32) -> Result<(), Refusal>
+pub fn project_once(
+    target: &mut Record,
+    address: u32,
+    io: u32,
+    id: u32,
+    parameter: u32,
+) -> Result<(), Refusal>
     ensures mode { λ _. ⌜ now (target .exit) .mode ≡ now (target .entry) .mode ⌝ }
     ensures result { λ r. ⌜ outcome (λ u. u) r ≡ edit-outcome Mode.Configuration (projecting address io id parameter) ⌝ }
     ensures rows { λ _. ⌜ rows (now (target .exit)) ≡ edit-after Mode.Configuration (projecting address io id parameter) (rows (now (target .entry))) ⌝ }

@@ -1,30 +1,16 @@
--- Image words: testing them one after another, and that reading one and writing one are inverse.
+-- Image words: reading one and writing one are inverse.
 use Prim.Native.Nat.{ℕ, zero, suc, _+_, _*_, _/_, _%_, _^_, _<_, _≤_}
 use mathlib.Core.Path.{_≡_, refl, ap, sym, _∙_}
 use mathlib.Core.Bool.{Bool, true, false, _&&_}
-use mathlib.Core.List.{List, [], _∷_}
 use mathlib.Core.Logic.{⊎-elim}
 use native.Mathlib.Omega.{arith}
 use lib.Dec.{eqb}
-use lib.ListN.{length, getD, drop}
-use Rattle.std.proofs.shelf.Lists.{at-drop-more, at-drop-all}
 use Rattle.std.proofs.shelf.Tests.{cases-eq, eq-eqb, ne-eqb, eqb-true, cond-true, and-parts, and-from, or-cases, or-right}
 use Rattle.std.specs.declared.option.Option.{Option}
 use Rattle.std.specs.declared.option.Option.the-variants.{Some, None}
 use Rattle.stations.specs.declared.station.Module.{Module}
 use Rattle.stations.specs.Stations.{State, Place, vacant, occupied, state-of, held}
-use Rattle.stations.specs.Images.{state-in, place-in, word-of, mark-bit, good-station, good-power, power-word, all-good}
-
--- The word at i decides, or leaves the decision to the rest
-
-pub good-so-far : (ws : List ℕ) (i : ℕ) → i < length ws → good-station (getD ws i 0) ≡ true → all-good (drop i ws) ≡ all-good (drop (i + 1) ws)
-good-so-far ws i h good = at-drop-more all-good ws i 0 h ∙ ap (λ b. b && all-good (drop (i + 1) ws)) good
-
-pub bad-at : (ws : List ℕ) (i : ℕ) → i < length ws → good-station (getD ws i 0) ≡ false → all-good (drop i ws) ≡ false
-bad-at ws i h bad = at-drop-more all-good ws i 0 h ∙ ap (λ b. b && all-good (drop (i + 1) ws)) bad
-
-pub good-to-the-end : (ws : List ℕ) (i : ℕ) → length ws ≤ i → all-good (drop i ws) ≡ true
-good-to-the-end ws i h = at-drop-all all-good ws i h
+use Rattle.stations.specs.Images.{state-in, place-in, word-of, mark-bit, good-station, good-power, power-word}
 
 -- One word
 
@@ -104,16 +90,7 @@ says (Some m) =
       or-right _ _ (and-from _ _ (eq-eqb _ _ kind) (eq-eqb _ _ gap)),
     )
 
--- A whole image
-
-pub each-good : (ws : List ℕ) → ((k : ℕ) → k < length ws → good-station (getD ws k 0) ≡ true) → all-good ws ≡ true
-each-good [] h = refl
-each-good (w ∷ ws) h = and-from _ _ (h 0 (omega arith)) (each-good ws (λ k l. h (suc k) (omega arith)))
-
-pub good-each : (ws : List ℕ) → all-good ws ≡ true → (k : ℕ) → k < length ws → good-station (getD ws k 0) ≡ true
-good-each [] h k l = absurd (omega arith)
-good-each (w ∷ ws) h zero l = and-parts _ _ h .0
-good-each (w ∷ ws) h (suc k) l = good-each ws (and-parts _ _ h .1) k (omega arith)
+-- The power word
 
 pub power-good : (b : Bool) → good-power (power-word b) ≡ true
 power-good true = refl

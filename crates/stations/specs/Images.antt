@@ -9,6 +9,7 @@ use lib.Dec.{eqb}
 use lib.ListN.{length, getD, take}
 use Rattle.std.specs.Iters.{counting}
 use Rattle.values.specs.Refusals.{Outcome, gives, refuses}
+use Rattle.values.specs.Tests.{every}
 use Rattle.stations.specs.Stations.{State, Place, vacant, occupied}
 
 -- A station's word, read
@@ -53,12 +54,8 @@ good-station w = eqb w 0 || (eqb (w / 2 ^ 30) 1 && eqb (w / 2 ^ 28 % 4) 0)
 abbrev pub good-power : ℕ → Bool
 good-power w = eqb w (power-word true) || eqb w (power-word false)
 
-abbrev pub all-good : List ℕ → Bool
-all-good [] = true
-all-good (w ∷ ws) = good-station w && all-good ws
-
 abbrev pub good-image : List ℕ → Bool
-good-image ws = eqb (length ws) 33 && (all-good (take 32 ws) && good-power (getD ws 32 0))
+good-image ws = eqb (length ws) 33 && (every good-station (take 32 ws) && good-power (getD ws 32 0))
 
 -- testing words: anything but a good image is refused
 abbrev pub tested : List ℕ → Outcome (Unit {0})

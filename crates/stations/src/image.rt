@@ -2,8 +2,9 @@ ghost use mathlib.Core.Path.{_≡_};
 ghost use mathlib.Core.Bool.{true};
 ghost use lib.ListN.{length};
 ghost use Rattle.values.specs.Refusals.{outcome};
+ghost use Rattle.values.specs.Tests.{every};
 ghost use Rattle.stations.specs.Stations.{place-of};
-ghost use Rattle.stations.specs.Images.{place-in, word-of, power-word, good-station, good-power, all-good, good-image, tested};
+ghost use Rattle.stations.specs.Images.{place-in, word-of, power-word, good-station, good-power, good-image, tested};
 use super::station::Disturbance;
 use super::station::Module;
 use super::station::Station;
@@ -69,7 +70,7 @@ fn is_station_word(word: u32) -> bool
 }
 
 fn are_station_words(words: &[u32]) -> bool
-    ensures { λ r. ⌜ r ≡ all-good (now (words .entry)) ⌝ }
+    ensures { λ r. ⌜ r ≡ every good-station (now (words .entry)) ⌝ }
 {
     for word in words {
         if !is_station_word(*word) {

@@ -84,10 +84,10 @@ filling i new old a = cond (ltb a i) (new a) (old a)
 pub fill-more : {X : Type 0} (new old : ℕ → X) (i : ℕ) (d : X) → i < 32 → set (table (filling i new old)) i (new i) ≡ table (filling (i + 1) new old)
 fill-more new old i d h =
     sym (table-write (filling i new old) (filling (i + 1) new old) i (new i) d h (cond-true _ (new i) (old i) (lt-ltb i (i + 1) (omega arith)))
-      (λ k l ne. ⊎-elim
-        (λ lt. cond-true _ (new k) (old k) (lt-ltb k (i + 1) (omega arith)) ∙ sym (cond-true _ (new k) (old k) (lt-ltb k i lt)))
-        (λ ge. cond-false _ (new k) (old k) (le-ltb k (i + 1) (omega arith)) ∙ sym (cond-false _ (new k) (old k) (le-ltb k i ge)))
-        (cases-lt k i)))
+    (λ k l ne. ⊎-elim
+    (λ lt. cond-true _ (new k) (old k) (lt-ltb k (i + 1) (omega arith)) ∙ sym (cond-true _ (new k) (old k) (lt-ltb k i lt)))
+    (λ ge. cond-false _ (new k) (old k) (le-ltb k (i + 1) (omega arith)) ∙ sym (cond-false _ (new k) (old k) (le-ltb k i ge)))
+    (cases-lt k i)))
 
 pub fill-all : {X : Type 0} (new old : ℕ → X) (d : X) → table (filling 32 new old) ≡ table new
 fill-all new old d = same-table (filling 32 new old) new d (λ k h. cond-true _ (new k) (old k) (lt-ltb k 32 h))

@@ -1,8 +1,9 @@
 use mathlib.Core.Path.{_≡_}
 use lib.ListN.{drop}
-use Rattle.stations.specs.Images.{all-good}
+use Rattle.values.specs.Tests.{every}
+use Rattle.stations.specs.Images.{good-station}
 use Rattle.stations.proofs.image.are_station_words.Given as given
 
 -- what is left decides
 abbrev pub Inv-loop-word : given.InvT-loop-word
-Inv-loop-word l = all-good (drop (l .word-index) (l .words)) ≡ all-good (l .words)
+Inv-loop-word l = every good-station (drop (l .word-index) (l .words)) ≡ every good-station (l .words)

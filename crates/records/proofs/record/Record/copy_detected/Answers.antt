@@ -26,7 +26,7 @@ returns c =
     let read : e ≡ getD es a e = default ∙ ap (λ (n : ℕ). getD es n e) to in
     let row = row-read (r .lists .lds) (r .lists .las) (r .lps) es a e (omega arith) (omega arith) read in
     let detected : c .contains-detected .result ≡ has (r .lists .lds) a = c .contains-detected .ensures ∙ ap (λ (w : ℕ). has w a) (c .lds .ensures) in
-    record
-      { mode = c .plan .ensures .mode
-      ; rows = copied-is (rows r) (rows (c .plan .last .self)) a (has (r .lists .lds) a) (has (r .lists .las) a) (has (r .lps) a) (c .contains-detected .result) e row detected (c .plan .ensures .rows)
-      }
+    record {
+      mode = c .plan .ensures .mode;
+      rows = copied-is (rows r) (rows (c .plan .last .self)) a (has (r .lists .lds) a) (has (r .lists .las) a) (has (r .lps) a) (c .contains-detected .result) e row detected (c .plan .ensures .rows);
+    }

@@ -19,9 +19,9 @@ returns c =
     let sized : length es ≡ 32 = search needs in
     let e : Entry = getD es i (c .index-self-a .result) in
     let read : e ≡ getD es i e = getD-default es i (c .index-self-a .result) e (omega arith) in
-    record
-      { mode = refl
-      ; rows =
+    record {
+      mode = refl;
+      rows =
           planned-at (old .lists .lds) (old .lists .las) (old .lps) (c .set-member-self .result) es i (c .args .address .value) e (c .args .projected) (c .args .codes) (c .args .parameter)
-          to (c .set-member-self .ensures) inside sized read
-      }
+          to (c .set-member-self .ensures) inside sized read;
+    }

@@ -1,0 +1,49 @@
+-- Orders of the controller: what each sends, and when placing one is refused.
+-- The refusals come in the order of the product's table: a bad address, a bad value, a wrong phase, an inactive address, no room.
+use Prim.Native.Nat.{ℕ, _+_}
+use mathlib.Core.Bool.{Bool, true, false, cond, _&&_}
+use mathlib.Core.List.{List, [], _∷_, _++_}
+use mathlib.Core.Path.{_≡_}
+use lib.Dec.{ltb}
+use Rattle.values.specs.Refusals.{Outcome, gives, refuses, refuses-for}
+use Rattle.telegrams.specs.Requests.{Sent, write-parameter, resetting}
+use Rattle.records.specs.Rows.{Row, row-at, is-module-address}
+use Rattle.master.specs.declared.master.Phase.{Phase}
+use Rattle.master.specs.declared.master.Phase.the-variants.{Offline, Detection, Activation, Normal}
+use Rattle.master.specs.declared.order.Order.{Order}
+use Rattle.master.specs.declared.order.Order.the-variants.{Parameter, Reset}
+
+-- an order is the request that carries it out
+abbrev pub ordered : Order → Sent
+ordered (Parameter a n) = record { to = a .value; asking = write-parameter (n .value) }
+ordered (Reset a) = record { to = a .value; asking = resetting }
+
+-- a reset order from any number
+abbrev pub reset-ordered : ℕ → Outcome Sent
+reset-ordered a = cond (is-module-address a) (gives (record { to = a; asking = resetting })) (refuses 0x8381)
+
+abbrev pub is-normal : Phase → Bool
+is-normal Offline = false
+is-normal Detection = false
+is-normal Activation = false
+is-normal Normal = true
+
+-- placing an order, or what making it came to: in which phase, with which rows, how many orders wait in how many places, and how many
+-- answers are uncollected in how many places
+abbrev pub place-outcome : Phase → List Row → ℕ → ℕ → ℕ → ℕ → Outcome Sent → Outcome (Unit {0})
+place-outcome phase rs waiting order-room uncollected answer-room (refuses-for n c) = refuses-for n c
+place-outcome phase rs waiting order-room uncollected answer-room (gives q) =
+    cond (is-normal phase)
+    (cond (row-at (q .to) rs .active)
+    (cond (ltb waiting order-room && ltb (waiting + uncollected) answer-room) (gives tt) (refuses 0x8311))
+    (refuses 0x8382))
+    (refuses 0x8384)
+
+abbrev pub orders-after : Outcome (Unit {0}) → Sent → List Sent → List Sent
+orders-after (gives u) q waiting = waiting ++ q ∷ []
+orders-after (refuses-for n c) q waiting = waiting
+
+-- what the order queue holds after a placing that came to o
+abbrev pub Placed : Outcome Sent → Outcome (Unit {0}) → List Sent → List Sent → Type 0
+Placed (refuses-for n c) o before after = after ≡ before
+Placed (gives q) o before after = after ≡ orders-after o q before

@@ -1,0 +1,66 @@
+ghost use mathlib.Core.Path.{_≡_};
+ghost use Rattle.values.specs.Refusals.{outcome};
+ghost use Rattle.telegrams.specs.Requests.{sent, with-nibble, write-parameter};
+ghost use Rattle.master.specs.Orders.{ordered, reset-ordered};
+use telegrams::request::Request;
+use values::address::Address;
+use values::module_address::ModuleAddress;
+use values::nibble::Nibble;
+use values::refusal::Refusal;
+
+/// What the controller orders for one module.
+#[derive(Clone, Copy)]
+pub enum Order {
+    Parameter(ModuleAddress, Nibble),
+    Reset(ModuleAddress),
+}
+
+impl Order {
+    pub fn parameter(address: u32, value: u32) -> Result<Order, Refusal>
+        ensures { λ r. ⌜ outcome ordered r ≡ with-nibble write-parameter address value ⌝ }
+    {
+        let to = ModuleAddress::new(address)?;
+        Ok(Order::Parameter(to, Nibble::new(value)?))
+    }
+
+    pub fn reset(address: u32) -> Result<Order, Refusal>
+        ensures { λ r. ⌜ outcome ordered r ≡ reset-ordered address ⌝ }
+    {
+        Ok(Order::Reset(ModuleAddress::new(address)?))
+    }
+
+    pub fn address(self) -> Address
+        ensures { λ r. ⌜ r .value ≡ ordered self .to ⌝ }
+    {
+        match self {
+            Order::Parameter(to, _) => Address::low(u32::from(to.get())),
+            Order::Reset(to) => Address::low(u32::from(to.get())),
+        }
+    }
+
+    /// The request that carries the order out.
+    pub fn request(self) -> Request
+        ensures { λ r. ⌜ sent r ≡ ordered self ⌝ }
+    {
+        match self {
+            Order::Parameter(to, value) => Request::WriteParameter(to, value),
+            Order::Reset(to) => Request::Reset(Address::low(u32::from(to.get()))),
+        }
+    }
+}
+
+/// What became of an order.
+#[derive(Clone, Copy)]
+pub enum Done {
+    Answered(Nibble),
+    NotActive,
+    Silent,
+    Disturbed,
+}
+
+/// An order with what became of it.
+#[derive(Clone, Copy)]
+pub struct Answer {
+    pub order: Order,
+    pub done: Done,
+}

@@ -101,3 +101,13 @@ entry-written lds las lps es i a e to inside sized =
 
 pub row-is : (lds las lps : ℕ) (es : List Entry) (a : ℕ) → a < 32 → row-at a (table (row-in lds las lps es)) ≡ row-in lds las lps es a
 row-is lds las lps es a h = at-table (row-in lds las lps es) a new-row h
+
+-- an entry that is written while its address changes its place in LDS and LAS
+pub relisted : (lds las lps lds′ las′ : ℕ) (es : List Entry) (i a : ℕ) (e : Entry) (d c : Bool) → i ≡ a → i < 32 → length es ≡ 32 → has lds′ a ≡ d → has las′ a ≡ c → ((k : ℕ) → k < 32 → (k ≡ a → ⊥) → has lds′ k ≡ has lds k) → ((k : ℕ) → k < 32 → (k ≡ a → ⊥) → has las′ k ≡ has las k) → table (row-in lds′ las′ lps (set es i e)) ≡ set (table (row-in lds las lps es)) a (row-of d c (row-at a (table (row-in lds las lps es)) .projected) e)
+relisted lds las lps lds′ las′ es i a e d c to inside sized here-d here-c other-d other-c =
+    ap (λ (n : ℕ). table (row-in lds′ las′ lps (set es n e))) to
+    ∙ rows-written lds las lps lds′ las′ lps es a e (omega arith) sized other-d other-c (λ k h ne. refl)
+    ∙ ap (set (table (row-in lds las lps es)) a)
+      (ap (λ (b : Bool). row-of b (has las′ a) (has lps a) e) here-d
+        ∙ ap (λ (b : Bool). row-of d b (has lps a) e) here-c
+        ∙ ap (λ (b : Bool). row-of d c b e) (sym (ap (λ (r : Row). r .projected) (row-is lds las lps es a (omega arith)))))

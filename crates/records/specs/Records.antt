@@ -1,6 +1,6 @@
 -- What the program's record means: its rows.
 use Prim.Native.Nat.{ℕ}
-use mathlib.Core.Bool.{Bool, false}
+use mathlib.Core.Bool.{Bool, true, false}
 use mathlib.Core.List.{List, map}
 use lib.ListN.{getD}
 use Rattle.values.specs.Tables.{table}
@@ -32,6 +32,17 @@ row-of detected active projected e =
 -- a row with the values of an entry, as the lists have it
 abbrev pub with-entry : Entry → Row → Row
 with-entry e r = row-of (r .detected) (r .active) (r .projected) e
+
+-- the same where the address is put into LDS, into LAS and LDS, and taken out of both
+
+abbrev pub detected-with : Entry → Row → Row
+detected-with e r = row-of true (r .active) (r .projected) e
+
+abbrev pub activated-with : Entry → Row → Row
+activated-with e r = row-of true true (r .projected) e
+
+abbrev pub forgotten-with : Entry → Row → Row
+forgotten-with e r = row-of false false (r .projected) e
 
 abbrev pub listed : Bool → Bool → Bool → Row → Row
 listed detected active projected r =

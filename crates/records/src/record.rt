@@ -3,7 +3,7 @@ ghost use lib.ListN.{set};
 ghost use Rattle.values.specs.Refusals.{outcome};
 ghost use Rattle.records.specs.Rows.{row-at, new-rows, outputs-outcome, outputs-after, inputs-outcome, agreeing, config-ok};
 ghost use Rattle.records.specs.Modes.{mode-outcome, mode-after};
-ghost use Rattle.records.specs.Records.{rows, with-entry};
+ghost use Rattle.records.specs.Records.{rows, with-entry, detected-with, activated-with, forgotten-with};
 use super::entry::Codes;
 use super::entry::Entry;
 use lists::member::contains;
@@ -95,6 +95,39 @@ impl Record {
         ensures rows { λ _. ⌜ rows (now (self .exit)) ≡ set (rows (now (self .entry))) (to .value) (with-entry entry (row-at (to .value) (rows (now (self .entry))))) ⌝ }
     {
         self.entries[usize::from(to.get())] = entry;
+    }
+
+    /// Puts an address into LDS, with this entry.
+    pub fn detect(&mut self, address: Address, entry: Entry)
+        ensures mode { λ _. ⌜ now (self .exit) .mode ≡ now (self .entry) .mode ⌝ }
+        ensures rows { λ _. ⌜ rows (now (self .exit)) ≡ set (rows (now (self .entry))) (address .value) (detected-with entry (row-at (address .value) (rows (now (self .entry))))) ⌝ }
+    {
+        let mut lists = self.lists;
+        lists.detect(address);
+        self.lists = lists;
+        self.entries[usize::from(address.get())] = entry;
+    }
+
+    /// Puts an address into LAS, and with that into LDS, with this entry.
+    pub fn activate(&mut self, address: ModuleAddress, entry: Entry)
+        ensures mode { λ _. ⌜ now (self .exit) .mode ≡ now (self .entry) .mode ⌝ }
+        ensures rows { λ _. ⌜ rows (now (self .exit)) ≡ set (rows (now (self .entry))) (address .value) (activated-with entry (row-at (address .value) (rows (now (self .entry))))) ⌝ }
+    {
+        let mut lists = self.lists;
+        lists.activate(address);
+        self.lists = lists;
+        self.entries[usize::from(address.get())] = entry;
+    }
+
+    /// Takes an address out of LDS and LAS, with this entry.
+    pub fn forget(&mut self, address: Address, entry: Entry)
+        ensures mode { λ _. ⌜ now (self .exit) .mode ≡ now (self .entry) .mode ⌝ }
+        ensures rows { λ _. ⌜ rows (now (self .exit)) ≡ set (rows (now (self .entry))) (address .value) (forgotten-with entry (row-at (address .value) (rows (now (self .entry))))) ⌝ }
+    {
+        let mut lists = self.lists;
+        lists.forget(address);
+        self.lists = lists;
+        self.entries[usize::from(address.get())] = entry;
     }
 
     /// Stores the outputs that the controller gives, inverted, as ODI.

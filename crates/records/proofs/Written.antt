@@ -1,5 +1,5 @@
 -- What a change of the lists and of one entry does to the rows.
-use Prim.Native.Nat.{ℕ, _<_}
+use Prim.Native.Nat.{ℕ, _/_, _%_, _<_}
 use mathlib.Core.Path.{_≡_, refl, ap, sym, _∙_}
 use mathlib.Core.Bool.{Bool, true, false}
 use mathlib.Core.List.{List, map}
@@ -7,13 +7,15 @@ use native.Mathlib.Omega.{arith}
 use lib.ListN.{length, getD, set, replicate}
 use Rattle.std.proofs.shelf.Lists.{getD-replicate, length-map, map-set, getD-map, getD-set-same, getD-set-other}
 use Rattle.values.specs.Tables.{table}
-use Rattle.values.proofs.Tables.{at-table, same-table, table-write}
+use Rattle.values.proofs.Tables.{length-table, at-table, same-table, table-write}
 use Rattle.values.specs.declared.nibble.Nibble.{Nibble}
 use Rattle.lists.specs.Members.{has, placed}
 use Rattle.lists.proofs.Laws.{has-none, has-placed-same, has-placed-other}
 use Rattle.records.specs.Rows.{Row, new-row, new-rows, row-at}
-use Rattle.records.specs.Records.{pair-of, row-of, with-entry, listed, row-in}
+use Rattle.records.specs.Records.{pair-of, row-of, with-entry, listed, row-in, rows}
 use Rattle.records.specs.Edits.{planned, copied}
+use Rattle.std.proofs.shelf.Tests.{ne-eqb}
+use Rattle.records.specs.declared.record.Record.{Record}
 use Rattle.records.specs.declared.entry.Codes.{Codes}
 use Rattle.records.specs.declared.entry.Entry.{Entry}
 
@@ -111,3 +113,12 @@ relisted lds las lps lds′ las′ es i a e d c to inside sized here-d here-c ot
       (ap (λ (b : Bool). row-of b (has las′ a) (has lps a) e) here-d
         ∙ ap (λ (b : Bool). row-of d b (has lps a) e) here-c
         ∙ ap (λ (b : Bool). row-of d c b e) (sym (ap (λ (r : Row). r .projected) (row-is lds las lps es a (omega arith)))))
+
+-- address 0 is never active
+pub zero-inactive : (r : Record) → row-at 0 (rows r) .active ≡ false
+zero-inactive r =
+    ap (λ (x : Row). x .active) (row-is (r .lists .lds) (r .lists .las) (r .lps) (r .entries) 0 (omega arith))
+    ∙ ne-eqb (r .lists .las / 1 % 2) 1 (λ e. omega (arith, r .lists .ok .1))
+
+pub rows-sized : (r : Record) → length (rows r) ≡ 32
+rows-sized r = length-table (row-in (r .lists .lds) (r .lists .las) (r .lps) (r .entries))

@@ -1,5 +1,5 @@
 ghost use mathlib.Core.Path.{_≡_};
-ghost use Prim.Native.Nat.{_<_};
+ghost use Prim.Native.Nat.{_+_, _%_, _<_};
 ghost use Rattle.values.specs.Refusals.{outcome};
 ghost use Rattle.values.specs.Ranges.{module-address-from};
 use super::refusal::Refusal;
@@ -19,6 +19,15 @@ impl ModuleAddress {
             return Err(Refusal::BadAddress);
         }
         Ok(ModuleAddress { value: n as u8 })
+    }
+
+    /// The module addresses counted from 0, and round again after the 31st.
+    pub fn nth(n: u32) -> ModuleAddress
+        ensures { λ r. ⌜ r .value ≡ n % 31 + 1 ⌝ }
+    {
+        ModuleAddress {
+            value: (n % 31 + 1) as u8,
+        }
     }
 
     pub fn get(self) -> u8

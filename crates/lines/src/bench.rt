@@ -2,7 +2,9 @@ ghost use mathlib.Core.Path.{_≡_};
 ghost use Prim.Native.Nat.{_<_};
 ghost use lib.ListN.{length};
 ghost use Rattle.values.specs.Tables.{table};
-ghost use Rattle.lines.specs.Lines.{station-at};
+ghost use Rattle.telegrams.specs.Requests.{sent, heard};
+ghost use Rattle.stations.specs.Stations.{place-of};
+ghost use Rattle.lines.specs.Lines.{station-at, line-after, line-reply};
 ghost use Rattle.stations.specs.Images.{place-at};
 ghost use Rattle.lines.specs.Racks.{Opened};
 use super::line::Line;
@@ -55,11 +57,17 @@ pub impl Line for BenchRack as BenchRackLine {
 
     ghost stations = { λ b. station-at (b .stations) };
 
-    fn is_powered(&self) -> bool {
+    fn is_powered(&self) -> bool
+        ensures { λ r. ⌜ r ≡ now (self .entry) .powered ⌝ }
+    {
         self.powered
     }
 
-    fn carry(&mut self, request: Request) -> Reply {
+    fn carry(&mut self, request: Request) -> Reply
+        ensures power { λ _. ⌜ now (self .exit) .powered ≡ now (self .entry) .powered ⌝ }
+        ensures after { λ _. ⌜ table (station-at (now (self .exit) .stations)) ≡ line-after (now (self .entry) .powered) (sent request) (table (station-at (now (self .entry) .stations))) ⌝ }
+        ensures reply { λ r. ⌜ heard r ≡ line-reply (now (self .entry) .powered) (sent request) (table (station-at (now (self .entry) .stations))) ⌝ }
+    {
         if !self.is_powered() {
             return Reply::Silence;
         }
@@ -68,7 +76,9 @@ pub impl Line for BenchRack as BenchRackLine {
 }
 
 pub impl Rack for BenchRack as BenchRackRack {
-    fn station(&self, address: Address) -> Station {
+    fn station(&self, address: Address) -> Station
+        ensures { λ r. ⌜ place-of r ≡ station-at (now (self .entry) .stations) (address .value) ⌝ }
+    {
         self.stations[usize::from(address.get())]
     }
 }

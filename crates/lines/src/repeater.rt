@@ -1,5 +1,7 @@
 ghost use mathlib.Core.Path.{_≡_};
-ghost use Rattle.lines.specs.Lines.{halved};
+ghost use Rattle.values.specs.Tables.{table};
+ghost use Rattle.telegrams.specs.Requests.{sent, heard};
+ghost use Rattle.lines.specs.Lines.{halved, line-after, line-reply};
 use super::line::Line;
 use telegrams::request::Reply;
 use telegrams::request::Request;
@@ -31,11 +33,17 @@ pub impl<L: Line> Line for Repeater<L> as RepeaterLine {
 
     ghost stations = { λ r a. halved (L·Line .stations (r .below) a) };
 
-    fn is_powered(&self) -> bool {
+    fn is_powered(&self) -> bool
+        ensures { λ r. ⌜ r ≡ L·Line .power (now (self .entry) .below) ⌝ }
+    {
         self.below.is_powered()
     }
 
-    fn carry(&mut self, request: Request) -> Reply {
+    fn carry(&mut self, request: Request) -> Reply
+        ensures power { λ _. ⌜ L·Line .power (now (self .exit) .below) ≡ L·Line .power (now (self .entry) .below) ⌝ }
+        ensures after { λ _. ⌜ table (λ a. halved (L·Line .stations (now (self .exit) .below) a)) ≡ line-after (L·Line .power (now (self .entry) .below)) (sent request) (table (λ a. halved (L·Line .stations (now (self .entry) .below) a))) ⌝ }
+        ensures reply { λ r. ⌜ heard r ≡ line-reply (L·Line .power (now (self .entry) .below)) (sent request) (table (λ a. halved (L·Line .stations (now (self .entry) .below) a))) ⌝ }
+    {
         match self.below.carry(request) {
             Reply::Disturbed => self.below.carry(request),
             first => first,

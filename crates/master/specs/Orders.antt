@@ -10,6 +10,8 @@ use Rattle.telegrams.specs.Requests.{Sent, write-parameter, resetting}
 use Rattle.records.specs.Rows.{Row, row-at, is-module-address}
 use Rattle.master.specs.declared.master.Phase.{Phase}
 use Rattle.master.specs.declared.master.Phase.the-variants.{Offline, Detection, Activation, Normal}
+use Rattle.master.specs.declared.order.Done.{Done}
+use Rattle.master.specs.declared.order.Done.the-variants.{Answered, NotActive, Silent, Disturbed}
 use Rattle.master.specs.declared.order.Order.{Order}
 use Rattle.master.specs.declared.order.Order.the-variants.{Parameter, Reset}
 
@@ -17,6 +19,13 @@ use Rattle.master.specs.declared.order.Order.the-variants.{Parameter, Reset}
 abbrev pub ordered : Order → Sent
 ordered (Parameter a n) = record { to = a .value; asking = write-parameter (n .value) }
 ordered (Reset a) = record { to = a .value; asking = resetting }
+
+-- what became of an order, by its number; 0 where a nibble came
+abbrev pub done-number : Done → ℕ
+done-number (Answered n) = 0
+done-number NotActive = 0x8382
+done-number Silent = 0x8383
+done-number Disturbed = 0x8383
 
 -- a reset order from any number
 abbrev pub reset-ordered : ℕ → Outcome Sent

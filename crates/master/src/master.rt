@@ -70,6 +70,7 @@ pub struct Listing {
     pub offline: bool,
 }
 
+#[derive(Drop)]
 pub struct Master {
     /// The plain record, which an opened projection borrows.
     pub table: Record,

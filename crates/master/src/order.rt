@@ -1,7 +1,7 @@
 ghost use mathlib.Core.Path.{_≡_};
 ghost use Rattle.values.specs.Refusals.{outcome};
 ghost use Rattle.telegrams.specs.Requests.{sent, with-nibble, write-parameter};
-ghost use Rattle.master.specs.Orders.{ordered, reset-ordered};
+ghost use Rattle.master.specs.Orders.{ordered, reset-ordered, done-number};
 use telegrams::request::Request;
 use values::address::Address;
 use values::module_address::ModuleAddress;
@@ -56,6 +56,21 @@ pub enum Done {
     NotActive,
     Silent,
     Disturbed,
+}
+
+impl Done {
+    /// The number that the controller is given where no nibble came: 8382 for an address that was not active, 8383 for silence and for a
+    /// disturbed reply; 0 where a nibble came.
+    pub fn number(self) -> u16
+        ensures { λ r. ⌜ r ≡ done-number self ⌝ }
+    {
+        match self {
+            Done::Answered(_) => 0,
+            Done::NotActive => 0x8382,
+            Done::Silent => 0x8383,
+            Done::Disturbed => 0x8383,
+        }
+    }
 }
 
 /// An order with what became of it.

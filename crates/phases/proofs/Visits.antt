@@ -17,11 +17,11 @@ use Rattle.phases.specs.Visits.{Visit, left-alone, Visited, addressed, sent-be
 
 pub unvisited : (visit : Row → Place → Visit) (a : ℕ) (rs : List Row) (ps : List Place) → visit (row-at a rs) (at ps a) ≡ left-alone (row-at a rs) (at ps a) → Visited visit a rs rs ps ps 0
 unvisited visit a rs ps alone =
-    record
-      { rows-after = sym (set-getD rs a new-row) ∙ ap (λ (v : Visit). set rs a (v .row)) (sym alone)
-      ; places-after = sym (set-getD ps a vacant) ∙ ap (λ (v : Visit). set ps a (v .place)) (sym alone)
-      ; counted = ap (λ (v : Visit). length (v .sent)) (sym alone)
-      }
+    record {
+      rows-after = sym (set-getD rs a new-row) ∙ ap (λ (v : Visit). set rs a (v .row)) (sym alone);
+      places-after = sym (set-getD ps a vacant) ∙ ap (λ (v : Visit). set ps a (v .place)) (sym alone);
+      counted = ap (λ (v : Visit). length (v .sent)) (sym alone);
+    }
 
 -- A loop over the addresses: those below i are visited, and n requests were sent
 module _ (visit : ℕ → Row → Place → Visit) (rs : List Row) (ps : List Place) where
@@ -51,11 +51,11 @@ module _ (visit : ℕ → Row → Place → Visit) (rs : List Row) (ps : List Pl
   pub starts : length rs ≡ 32 → length ps ≡ 32 → Below 0 rs ps 0
   unfolding sent-below
   starts rows-32 places-32 =
-      record
-        { rows-so-far = is-table (filling 0 new-row-at old-row-at) rs new-row rows-32 (λ k h. sym (cond-false _ (new-row-at k) (old-row-at k) (le-ltb k 0 (omega arith))))
-        ; places-so-far = is-table (filling 0 new-place-at old-place-at) ps vacant places-32 (λ k h. sym (cond-false _ (new-place-at k) (old-place-at k) (le-ltb k 0 (omega arith))))
-        ; count-so-far = refl
-        }
+      record {
+        rows-so-far = is-table (filling 0 new-row-at old-row-at) rs new-row rows-32 (λ k h. sym (cond-false _ (new-row-at k) (old-row-at k) (le-ltb k 0 (omega arith))));
+        places-so-far = is-table (filling 0 new-place-at old-place-at) ps vacant places-32 (λ k h. sym (cond-false _ (new-place-at k) (old-place-at k) (le-ltb k 0 (omega arith))));
+        count-so-far = refl;
+      }
 
   addressed-length : (a : ℕ) (qs : List Asking) → length (addressed a qs) ≡ length qs
   addressed-length a [] = refl
@@ -73,27 +73,27 @@ module _ (visit : ℕ → Row → Place → Visit) (rs : List Row) (ps : List Pl
       let row : row-at i rs′ ≡ old-row-at i = ap (row-at i) (below .rows-so-far) ∙ at-filling new-row-at old-row-at i new-row h in
       let place : at ps′ i ≡ old-place-at i = ap (λ (l : List Place). at l i) (below .places-so-far) ∙ at-filling new-place-at old-place-at i vacant h in
       let same : visit i (row-at i rs′) (at ps′ i) ≡ made i = ap (λ (r : Row). visit i r (at ps′ i)) row ∙ ap (visit i (old-row-at i)) place in
-      record
-        { rows-so-far =
+      record {
+        rows-so-far =
             visited .rows-after
             ∙ ap (λ (v : Visit). set rs′ i (v .row)) same
             ∙ ap (λ (l : List Row). set l i (new-row-at i)) (below .rows-so-far)
-            ∙ fill-more new-row-at old-row-at i new-row h
-        ; places-so-far =
+            ∙ fill-more new-row-at old-row-at i new-row h;
+        places-so-far =
             visited .places-after
             ∙ ap (λ (v : Visit). set ps′ i (v .place)) same
             ∙ ap (λ (l : List Place). set l i (new-place-at i)) (below .places-so-far)
-            ∙ fill-more new-place-at old-place-at i vacant h
-        ; count-so-far =
+            ∙ fill-more new-place-at old-place-at i vacant h;
+        count-so-far =
             ap (λ (k : ℕ). k + m) (below .count-so-far)
             ∙ ap (λ (k : ℕ). length (sent-below i asked-at) + k) (visited .counted ∙ ap (λ (v : Visit). length (v .sent)) same)
-            ∙ sym (sent-more i)
-        }
+            ∙ sym (sent-more i);
+      }
 
   pub ends : (i : ℕ) (rs′ : List Row) (ps′ : List Place) (n : ℕ) → i ≡ 32 → Below i rs′ ps′ n → All-visited visit rs rs′ ps ps′ n
   ends i rs′ ps′ n e below =
-      record
-        { rows-after = below .rows-so-far ∙ ap (λ (k : ℕ). table (filling k new-row-at old-row-at)) e ∙ fill-all new-row-at old-row-at new-row
-        ; places-after = below .places-so-far ∙ ap (λ (k : ℕ). table (filling k new-place-at old-place-at)) e ∙ fill-all new-place-at old-place-at vacant
-        ; counted = below .count-so-far ∙ ap (λ (k : ℕ). length (sent-below k asked-at)) e
-        }
+      record {
+        rows-after = below .rows-so-far ∙ ap (λ (k : ℕ). table (filling k new-row-at old-row-at)) e ∙ fill-all new-row-at old-row-at new-row;
+        places-after = below .places-so-far ∙ ap (λ (k : ℕ). table (filling k new-place-at old-place-at)) e ∙ fill-all new-place-at old-place-at vacant;
+        counted = below .count-so-far ∙ ap (λ (k : ℕ). length (sent-below k asked-at)) e;
+      }

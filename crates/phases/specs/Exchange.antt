@@ -11,33 +11,33 @@ use Rattle.phases.specs.Visits.{Visit, left-alone}
 
 abbrev pub with-data : ℕ → ℕ → Row → Row
 with-data idi misses r =
-    record
-      { detected = r .detected
-      ; active = r .active
-      ; projected = r .projected
-      ; cdi = r .cdi
-      ; pcd = r .pcd
-      ; pi = r .pi
-      ; pp = r .pp
-      ; idi = idi
-      ; odi = r .odi
-      ; misses = misses
-      }
+    record {
+      detected = r .detected;
+      active = r .active;
+      projected = r .projected;
+      cdi = r .cdi;
+      pcd = r .pcd;
+      pi = r .pi;
+      pp = r .pp;
+      idi = idi;
+      odi = r .odi;
+      misses = misses;
+    }
 
 abbrev pub dropped : Row → Row
 dropped r =
-    record
-      { detected = false
-      ; active = false
-      ; projected = r .projected
-      ; cdi = no-codes
-      ; pcd = r .pcd
-      ; pi = r .pi
-      ; pp = r .pp
-      ; idi = 0
-      ; odi = r .odi
-      ; misses = 0
-      }
+    record {
+      detected = false;
+      active = false;
+      projected = r .projected;
+      cdi = no-codes;
+      pcd = r .pcd;
+      pi = r .pi;
+      pp = r .pp;
+      idi = 0;
+      odi = r .odi;
+      misses = 0;
+    }
 
 abbrev pub missed : Row → Row
 missed r = cond (ltb (r .misses) 2) (with-data (r .idi) (r .misses + 1) r) (dropped r)
@@ -50,9 +50,9 @@ exchanged r disturbed = missed r
 abbrev pub exchange-visit : Bool → Row → Place → Visit
 exchange-visit power r p =
     cond (r .active)
-    (record
-      { row = exchanged r (reply power p (data-exchange (r .odi)))
-      ; place = after power p (data-exchange (r .odi))
-      ; sent = data-exchange (r .odi) ∷ []
-      })
+    (record {
+      row = exchanged r (reply power p (data-exchange (r .odi)));
+      place = after power p (data-exchange (r .odi));
+      sent = data-exchange (r .odi) ∷ [];
+    })
     (left-alone r p)

@@ -32,7 +32,15 @@ fn miss(target: &mut Record, address: Address)
         let full = Nibble::low(15);
         let cdi = Codes { io: full, id: full };
         let idi = Nibble::low(0);
-        target.forget(address, Entry { cdi, idi, misses: 0, ..entry });
+        target.forget(
+            address,
+            Entry {
+                cdi,
+                idi,
+                misses: 0,
+                ..entry
+            },
+        );
     }
 }
 
@@ -49,7 +57,14 @@ fn exchange_at<L: Line>(target: &mut Record, line: &mut L, address: ModuleAddres
     }
     let entry = target.entry(at);
     match line.carry(Request::DataExchange(address, entry.odi)) {
-        Reply::Answer(idi) => target.set_entry(at, Entry { idi, misses: 0, ..entry }),
+        Reply::Answer(idi) => target.set_entry(
+            at,
+            Entry {
+                idi,
+                misses: 0,
+                ..entry
+            },
+        ),
         Reply::Silence => miss(target, at),
         Reply::Disturbed => miss(target, at),
     }

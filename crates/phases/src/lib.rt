@@ -1,2 +1,2 @@
-//! The parts of a cycle, on a record and any line: exchange, detection, activation.
+//! The parts of a cycle, on a record and any line. So far: data exchange.
 pub mod exchange;

@@ -110,9 +110,9 @@ relisted lds las lps lds′ las′ es i a e d c to inside sized here-d here-c ot
     ap (λ (n : ℕ). table (row-in lds′ las′ lps (set es n e))) to
     ∙ rows-written lds las lps lds′ las′ lps es a e (omega arith) sized other-d other-c (λ k h ne. refl)
     ∙ ap (set (table (row-in lds las lps es)) a)
-      (ap (λ (b : Bool). row-of b (has las′ a) (has lps a) e) here-d
-        ∙ ap (λ (b : Bool). row-of d b (has lps a) e) here-c
-        ∙ ap (λ (b : Bool). row-of d c b e) (sym (ap (λ (r : Row). r .projected) (row-is lds las lps es a (omega arith)))))
+    (ap (λ (b : Bool). row-of b (has las′ a) (has lps a) e) here-d
+    ∙ ap (λ (b : Bool). row-of d b (has lps a) e) here-c
+    ∙ ap (λ (b : Bool). row-of d c b e) (sym (ap (λ (r : Row). r .projected) (row-is lds las lps es a (omega arith)))))
 
 -- address 0 is never active
 pub zero-inactive : (r : Record) → row-at 0 (rows r) .active ≡ false

@@ -23,6 +23,7 @@ pub enum Mode {
 }
 
 /// The master's one plain record.
+#[derive(Drop)]
 pub struct Record {
     pub(crate) mode: Mode,
     pub(crate) lists: Lists,

@@ -17,13 +17,14 @@ pub loop-a-holds : need.loop-a-holds
 loop-a-holds g c =
     let power = g .L·Line .power (c .args .line .now) in
     let rs = rows (c .args .target .now) in
-    let ps = table (g .L·Line .stations (c .args .line .now)) in
-    ( refl
-    , refl
-    , omega arith
-    , goes-on (λ a. exchange-visit power) rs ps 0 rs rs ps ps 0 0 (omega arith)
-      (starts (λ a. exchange-visit power) rs ps (rows-sized (c .args .target .now)) (length-table (g .L·Line .stations (c .args .line .now))))
-      (unvisited (exchange-visit power) 0 rs ps (cond-false _ _ _ (zero-inactive (c .args .target .now)))) )
+    let ps = table (g .L·Line .stations (c .args .line .now)) in (
+      refl,
+      refl,
+      omega arith,
+      goes-on (λ a. exchange-visit power) rs ps 0 rs rs ps ps 0 0 (omega arith)
+          (starts (λ a. exchange-visit power) rs ps (rows-sized (c .args .target .now)) (length-table (g .L·Line .stations (c .args .line .now))))
+          (unvisited (exchange-visit power) 0 rs ps (cond-false _ _ _ (zero-inactive (c .args .target .now)))),
+    )
 
 pub loop-a-again : need.loop-a-again
 loop-a-again g c =
@@ -36,20 +37,21 @@ loop-a-again g c =
     let m = c .exchange-at-sent .result in
     let to : c .nth .result .value ≡ i = omega arith in
     let visited : Visited (exchange-visit power) i rs′ rs″ ps′ ps″ m =
-      subst (λ (p : Bool). Visited (exchange-visit p) i rs′ rs″ ps′ ps″ m) (c .loop-a .inv .1)
-      (subst (λ (n : ℕ). Visited (exchange-visit (g .L·Line .power (c .loop-a .line))) n rs′ rs″ ps′ ps″ m) to (c .exchange-at-sent .ensures .visited)) in
-    ( c .exchange-at-sent .ensures .mode ∙ c .loop-a .inv .0
-    , c .exchange-at-sent .ensures .power ∙ c .loop-a .inv .1
-    , omega (arith, c .exchange-at-sent .ensures .few, c .loop-a .inv .2)
-    , goes-on (λ a. exchange-visit power) (rows (c .args .target .now)) (table (g .L·Line .stations (c .args .line .now))) i rs′ rs″ ps′ ps″ (c .loop-a .sent) m (omega arith) (c .loop-a .inv .3) visited )
+    subst (λ (p : Bool). Visited (exchange-visit p) i rs′ rs″ ps′ ps″ m) (c .loop-a .inv .1)
+    (subst (λ (n : ℕ). Visited (exchange-visit (g .L·Line .power (c .loop-a .line))) n rs′ rs″ ps′ ps″ m) to (c .exchange-at-sent .ensures .visited)) in (
+      c .exchange-at-sent .ensures .mode ∙ c .loop-a .inv .0,
+      c .exchange-at-sent .ensures .power ∙ c .loop-a .inv .1,
+      omega (arith, c .exchange-at-sent .ensures .few, c .loop-a .inv .2),
+      goes-on (λ a. exchange-visit power) (rows (c .args .target .now)) (table (g .L·Line .stations (c .args .line .now))) i rs′ rs″ ps′ ps″ (c .loop-a .sent) m (omega arith) (c .loop-a .inv .3) visited,
+    )
 
 pub returns : need.returns
 returns g c =
-    record
-      { mode = c .loop-a .inv .0
-      ; power = c .loop-a .inv .1
-      ; few = omega (arith, c .loop-a .inv .2, c .loop-a .kept .a-end)
-      ; visited =
+    record {
+      mode = c .loop-a .inv .0;
+      power = c .loop-a .inv .1;
+      few = omega (arith, c .loop-a .inv .2, c .loop-a .kept .a-end);
+      visited =
           ends (λ a. exchange-visit (g .L·Line .power (c .args .line .now))) (rows (c .args .target .now)) (table (g .L·Line .stations (c .args .line .now))) (c .loop-a .a)
-          (rows (c .loop-a .target)) (table (g .L·Line .stations (c .loop-a .line))) (c .loop-a .sent) (omega (arith, c .loop-a .kept .a-end)) (c .loop-a .inv .3)
-      }
+          (rows (c .loop-a .target)) (table (g .L·Line .stations (c .loop-a .line))) (c .loop-a .sent) (omega (arith, c .loop-a .kept .a-end)) (c .loop-a .inv .3);
+    }

@@ -21,13 +21,13 @@ returns c =
     let sized : length es ≡ 32 = search needs in
     let lds : c .activate .last .self .lds ≡ joined (r .lists .lds) a = c .activate .ensures .lds in
     let las : c .activate .last .self .las ≡ joined (r .lists .las) a = c .activate .ensures .las in
-    record
-      { mode = refl
-      ; rows =
+    record {
+      mode = refl;
+      rows =
           relisted (r .lists .lds) (r .lists .las) (r .lps) (c .activate .last .self .lds) (c .activate .last .self .las) es (c .from .result) a (c .args .entry) true true
           (c .from .ensures ∙ c .get .ensures) (omega arith) sized
           (ap (λ (w : ℕ). has w a) lds ∙ has-joined-same (r .lists .lds) a)
           (ap (λ (w : ℕ). has w a) las ∙ has-joined-same (r .lists .las) a)
           (λ k h ne. ap (λ (w : ℕ). has w k) lds ∙ has-joined-other (r .lists .lds) a k ne)
-          (λ k h ne. ap (λ (w : ℕ). has w k) las ∙ has-joined-other (r .lists .las) a k ne)
-      }
+          (λ k h ne. ap (λ (w : ℕ). has w k) las ∙ has-joined-other (r .lists .las) a k ne);
+    }

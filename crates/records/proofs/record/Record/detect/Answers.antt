@@ -21,13 +21,13 @@ returns c =
     let sized : length es ≡ 32 = search needs in
     let lds : c .detect .last .self .lds ≡ joined (r .lists .lds) a = c .detect .ensures .lds in
     let las : c .detect .last .self .las ≡ r .lists .las = c .detect .ensures .las in
-    record
-      { mode = refl
-      ; rows =
+    record {
+      mode = refl;
+      rows =
           relisted (r .lists .lds) (r .lists .las) (r .lps) (c .detect .last .self .lds) (c .detect .last .self .las) es (c .from .result) a (c .args .entry) true (row-at a (rows r) .active)
           (c .from .ensures ∙ c .get .ensures) (omega arith) sized
           (ap (λ (w : ℕ). has w a) lds ∙ has-joined-same (r .lists .lds) a)
           (ap (λ (w : ℕ). has w a) las ∙ sym (ap (λ (x : Row). x .active) (row-is (r .lists .lds) (r .lists .las) (r .lps) es a (omega arith))))
           (λ k h ne. ap (λ (w : ℕ). has w k) lds ∙ has-joined-other (r .lists .lds) a k ne)
-          (λ k h ne. ap (λ (w : ℕ). has w k) las)
-      }
+          (λ k h ne. ap (λ (w : ℕ). has w k) las);
+    }

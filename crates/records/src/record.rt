@@ -88,7 +88,8 @@ impl Record {
     pub fn entry(&self, address: Address) -> Entry
         ensures { λ r. ⌜ with-entry r (row-at (address .value) (rows (now (self .entry)))) ≡ row-at (address .value) (rows (now (self .entry))) ⌝ }
     {
-        self.entries[usize::from(address.get())]
+        let a = usize::from(address.get());
+        self.entries[a]
     }
 
     pub fn set_entry(&mut self, to: Address, entry: Entry)

@@ -13,8 +13,8 @@ pub returns : need.returns
 returns c =
     let r = c .args .self .now in
     let es : List Entry = r .entries in
-    let i : ℕ = c .from .result in
+    let i : ℕ = c .from-a .result in
     let sized : length es ≡ 32 = search needs in
-    let e : Entry = getD es i (c .index-self-from .result) in
-    entry-read (r .lists .lds) (r .lists .las) (r .lps) es i (c .args .address .value) e (c .from .ensures ∙ c .get .ensures) (omega arith) sized
-    (getD-default es i (c .index-self-from .result) e (omega arith))
+    let e : Entry = getD es i (c .index-self-a .result) in
+    entry-read (r .lists .lds) (r .lists .las) (r .lps) es i (c .args .address .value) e (c .from-a .ensures ∙ c .get .ensures) (omega arith) sized
+    (getD-default es i (c .index-self-a .result) e (omega arith))

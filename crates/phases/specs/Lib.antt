@@ -1,2 +1,3 @@
 pub mod Visits
 pub mod Exchange
+pub mod Detection

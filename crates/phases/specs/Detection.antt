@@ -9,18 +9,18 @@ use Rattle.phases.specs.Visits.{Visit}
 
 abbrev pub found : Pair → Row → Row
 found codes r =
-    record
-      { detected = true
-      ; active = r .active
-      ; projected = r .projected
-      ; cdi = codes
-      ; pcd = r .pcd
-      ; pi = r .pi
-      ; pp = r .pp
-      ; idi = r .idi
-      ; odi = r .odi
-      ; misses = r .misses
-      }
+    record {
+      detected = true;
+      active = r .active;
+      projected = r .projected;
+      cdi = codes;
+      pcd = r .pcd;
+      pi = r .pi;
+      pp = r .pp;
+      idi = r .idi;
+      odi = r .odi;
+      misses = r .misses;
+    }
 
 -- the I/O code was c, and this is heard of the ID code
 abbrev pub named : ℕ → Row → Heard → Row

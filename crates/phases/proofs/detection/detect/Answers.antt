@@ -12,12 +12,13 @@ use Rattle.phases.proofs.Visits.{starts, goes-on, ends}
 use Rattle.phases.proofs.detection.detect.Needs as need
 
 pub loop-a-holds : need.loop-a-holds
-loop-a-holds g c =
-    ( refl
-    , refl
-    , omega arith
-    , starts (λ a. detect-visit (g .L·Line .power (c .args .line .now))) (rows (c .args .target .now)) (table (g .L·Line .stations (c .args .line .now)))
-      (rows-sized (c .args .target .now)) (length-table (g .L·Line .stations (c .args .line .now))) )
+loop-a-holds g c = (
+  refl,
+  refl,
+  omega arith,
+  starts (λ a. detect-visit (g .L·Line .power (c .args .line .now))) (rows (c .args .target .now)) (table (g .L·Line .stations (c .args .line .now)))
+      (rows-sized (c .args .target .now)) (length-table (g .L·Line .stations (c .args .line .now))),
+)
 
 pub loop-a-again : need.loop-a-again
 loop-a-again g c =
@@ -30,20 +31,21 @@ loop-a-again g c =
     let m = c .detect-at-sent .result in
     let to : c .low .result .value ≡ i = omega arith in
     let visited : Visited (detect-visit power) i rs′ rs″ ps′ ps″ m =
-      subst (λ (p : Bool). Visited (detect-visit p) i rs′ rs″ ps′ ps″ m) (c .loop-a .inv .1)
-      (subst (λ (n : ℕ). Visited (detect-visit (g .L·Line .power (c .loop-a .line))) n rs′ rs″ ps′ ps″ m) to (c .detect-at-sent .ensures .visited)) in
-    ( c .detect-at-sent .ensures .mode ∙ c .loop-a .inv .0
-    , c .detect-at-sent .ensures .power ∙ c .loop-a .inv .1
-    , omega (arith, c .detect-at-sent .ensures .few, c .loop-a .inv .2)
-    , goes-on (λ a. detect-visit power) (rows (c .args .target .now)) (table (g .L·Line .stations (c .args .line .now))) i rs′ rs″ ps′ ps″ (c .loop-a .sent) m (omega arith) (c .loop-a .inv .3) visited )
+    subst (λ (p : Bool). Visited (detect-visit p) i rs′ rs″ ps′ ps″ m) (c .loop-a .inv .1)
+    (subst (λ (n : ℕ). Visited (detect-visit (g .L·Line .power (c .loop-a .line))) n rs′ rs″ ps′ ps″ m) to (c .detect-at-sent .ensures .visited)) in (
+      c .detect-at-sent .ensures .mode ∙ c .loop-a .inv .0,
+      c .detect-at-sent .ensures .power ∙ c .loop-a .inv .1,
+      omega (arith, c .detect-at-sent .ensures .few, c .loop-a .inv .2),
+      goes-on (λ a. detect-visit power) (rows (c .args .target .now)) (table (g .L·Line .stations (c .args .line .now))) i rs′ rs″ ps′ ps″ (c .loop-a .sent) m (omega arith) (c .loop-a .inv .3) visited,
+    )
 
 pub returns : need.returns
 returns g c =
-    record
-      { mode = c .loop-a .inv .0
-      ; power = c .loop-a .inv .1
-      ; few = omega (arith, c .loop-a .inv .2, c .loop-a .kept .a-end)
-      ; visited =
+    record {
+      mode = c .loop-a .inv .0;
+      power = c .loop-a .inv .1;
+      few = omega (arith, c .loop-a .inv .2, c .loop-a .kept .a-end);
+      visited =
           ends (λ a. detect-visit (g .L·Line .power (c .args .line .now))) (rows (c .args .target .now)) (table (g .L·Line .stations (c .args .line .now))) (c .loop-a .a)
-          (rows (c .loop-a .target)) (table (g .L·Line .stations (c .loop-a .line))) (c .loop-a .sent) (omega (arith, c .loop-a .kept .a-end)) (c .loop-a .inv .3)
-      }
+          (rows (c .loop-a .target)) (table (g .L·Line .stations (c .loop-a .line))) (c .loop-a .sent) (omega (arith, c .loop-a .kept .a-end)) (c .loop-a .inv .3);
+    }

@@ -4,10 +4,8 @@ use Prim.Native.Nat.{ℕ, _/_}
 use mathlib.Core.Bool.{Bool}
 use mathlib.Core.List.{List}
 use lib.ListN.{getD, set}
-use Rattle.std.specs.declared.option.Option.the-variants.{None}
 use Rattle.telegrams.specs.Requests.{Sent, Heard}
-use Rattle.stations.specs.declared.station.Station.{Station}
-use Rattle.stations.specs.Stations.{Place, vacant, occupied, with-disturbance, place-of, after, reply}
+use Rattle.stations.specs.Stations.{Place, vacant, occupied, with-disturbance, after, reply}
 
 abbrev pub at : List Place → ℕ → Place
 at ps a = getD ps a vacant
@@ -23,11 +21,3 @@ line-reply power q ps = reply power (at ps (q .to)) (q .asking)
 abbrev pub halved : Place → Place
 halved vacant = vacant
 halved (occupied x) = occupied (with-disturbance (x .disturbance / 2) x)
-
--- The bench rack's table
-
-abbrev pub empty-station : Station
-empty-station = record { «module» = None }
-
-abbrev pub station-at : List Station → ℕ → Place
-station-at ss a = place-of (getD ss a empty-station)

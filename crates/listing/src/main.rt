@@ -2,9 +2,9 @@
 ghost use Prim.Native.Nat.{_≤_};
 ghost use lib.ListN.{length};
 ghost use Rattle.std.specs.declared.result.Result.the-variants.{Ok, Err};
-use lines::image_rack::ImageRack;
-use lines::image_rack::ImageRackLine;
 use lines::line::Line;
+use racks::image_rack::ImageRack;
+use racks::image_rack::ImageRackLine;
 use stations::bytes::IMAGE_BYTES;
 use stations::bytes::image_from_bytes;
 use std::io;

@@ -1,9 +1,9 @@
 //! Prints what the code makes of the worked examples, and how many words of 14 bits are taken and refused.
-use lines::bench::BenchRack;
-use lines::bench::BenchRackLine;
 use lines::line::Line;
 use lines::repeater::Repeater;
 use lines::repeater::RepeaterLine;
+use racks::bench::BenchRack;
+use racks::bench::BenchRackLine;
 use stations::image::IMAGE_WORDS;
 use stations::station::Station;
 use std::io;

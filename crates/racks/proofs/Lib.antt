@@ -1,0 +1,4 @@
+pub mod Stores
+pub mod Images
+pub mod WordRacks
+pub mod Trials

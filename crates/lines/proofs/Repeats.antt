@@ -10,11 +10,9 @@ use lib.Dec.{ltb}
 use lib.ListN.{length, getD, set}
 use Rattle.std.proofs.shelf.Lists.{map-set, set-set, set-getD, getD-set-same, getD-past}
 use Rattle.std.proofs.shelf.Tests.{cases-lt, cases-eq, lt-ltb, le-ltb, cond-true, cond-false}
-use Rattle.telegrams.specs.Requests.{Asking, Sent, Heard, data-exchange, write-parameter, read-io, read-id, resetting, nibble, silence, disturbed, heard}
-use Rattle.telegrams.specs.declared.request.Reply.{Reply}
-use Rattle.telegrams.specs.declared.request.Reply.the-variants.{Answer, Silence, Disturbed}
+use Rattle.telegrams.specs.Requests.{Asking, Sent, Heard, data-exchange, write-parameter, read-io, read-id, resetting, nibble, silence, disturbed}
 use Rattle.stations.specs.Stations.{State, Place, vacant, occupied, with-disturbance, with-outputs, exchange-disabled, port-bits, obeyed, answer, after, reply}
-use Rattle.lines.specs.Lines.{at, line-after, line-reply, halved}
+use Rattle.lines.specs.Lines.{at, line-after, line-reply, halved, repeated-after, repeated-reply}
 
 -- obeying neither reads nor changes the count
 
@@ -131,18 +129,18 @@ at-halved (p ∷ ps) zero = refl
 at-halved (p ∷ ps) (suc a) = at-halved ps a
 
 -- the line below goes from ps to ps′ and replies r, as the line with halved counts would
-abbrev Halves-line : Bool → Sent → List Place → List Place → Heard → Type 0
+abbrev pub Halves-line : Bool → Sent → List Place → List Place → Heard → Type 0
 Halves-line power q ps ps′ r = (map halved ps′ ≡ line-after power q (map halved ps)) × (r ≡ line-reply power q (map halved ps))
 
 at-one : (q : Sent) (ps : List Place) (p′ : Place) (r : Heard) → Halves (q .asking) (at ps (q .to)) p′ r → Halves-line true q ps (set ps (q .to) p′) r
 at-one q ps p′ r (h, k) = let there = at-halved ps (q .to) in let written = map-set halved ps (q .to) p′ in (cc, cc)
 
-pub passed-once : (power : Bool) (q : Sent) (ps : List Place) → (line-reply power q ps ≡ disturbed → ⊥) → Halves-line power q ps (line-after power q ps) (line-reply power q ps)
+passed-once : (power : Bool) (q : Sent) (ps : List Place) → (line-reply power q ps ≡ disturbed → ⊥) → Halves-line power q ps (line-after power q ps) (line-reply power q ps)
 passed-once true q ps clear = at-one q ps (after true (at ps (q .to)) (q .asking)) (reply true (at ps (q .to)) (q .asking)) (once-at (q .asking) (at ps (q .to)) clear)
 passed-once false q ps clear =
     (ap (map halved) (set-getD ps (q .to) vacant) ∙ sym (set-getD (map halved ps) (q .to) vacant), refl)
 
-pub passed-twice : (power : Bool) (q : Sent) (ps : List Place) → line-reply power q ps ≡ disturbed → Halves-line power q ps (line-after power q (line-after power q ps)) (line-reply power q (line-after power q ps))
+passed-twice : (power : Bool) (q : Sent) (ps : List Place) → line-reply power q ps ≡ disturbed → Halves-line power q ps (line-after power q (line-after power q ps)) (line-reply power q (line-after power q ps))
 passed-twice false q ps e = let z : _≡_ {A = ℕ} 0 1 = cc in absurd (omega arith)
 passed-twice true q ps e =
     let p = at ps (q .to) in
@@ -153,7 +151,14 @@ passed-twice true q ps e =
     let twice = set-set ps (q .to) p′ (after true p′ (q .asking)) in
     (cc, cc)
 
-pub heard-disturbed : (r : Reply) → heard r ≡ disturbed → r ≡ Disturbed
-heard-disturbed (Answer n) e = let z : _≡_ {A = ℕ} 0 1 = cc in absurd (omega arith)
-heard-disturbed Silence e = let z : _≡_ {A = ℕ} 0 1 = cc in absurd (omega arith)
-heard-disturbed Disturbed e = refl
+-- the second reply after a disturbed first one, and else the first
+pub passed : (power : Bool) (q : Sent) (ps ps′ ps″ : List Place) (h r : Heard) → ps′ ≡ line-after power q ps → h ≡ line-reply power q ps → ps″ ≡ repeated-after power q ps′ h → r ≡ repeated-reply power q ps′ h → Halves-line power q ps ps″ r
+passed power q ps ps′ ps″ (nibble n) r below first after last =
+    let once = passed-once power q ps (λ e. let z : _≡_ {A = ℕ} 0 1 = cc in absurd (omega arith)) in
+    (cc, cc)
+passed power q ps ps′ ps″ silence r below first after last =
+    let once = passed-once power q ps (λ e. let z : _≡_ {A = ℕ} 0 1 = cc in absurd (omega arith)) in
+    (cc, cc)
+passed power q ps ps′ ps″ disturbed r below first after last =
+    let twice = passed-twice power q ps (sym first) in
+    (cc, cc)

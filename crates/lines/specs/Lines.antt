@@ -4,7 +4,7 @@ use Prim.Native.Nat.{ℕ, _/_}
 use mathlib.Core.Bool.{Bool}
 use mathlib.Core.List.{List}
 use lib.ListN.{getD, set}
-use Rattle.telegrams.specs.Requests.{Sent, Heard}
+use Rattle.telegrams.specs.Requests.{Sent, Heard, nibble, silence, disturbed}
 use Rattle.stations.specs.Stations.{Place, vacant, occupied, with-disturbance, after, reply}
 
 abbrev pub at : List Place → ℕ → Place
@@ -21,3 +21,15 @@ line-reply power q ps = reply power (at ps (q .to)) (q .asking)
 abbrev pub halved : Place → Place
 halved vacant = vacant
 halved (occupied x) = occupied (with-disturbance (x .disturbance / 2) x)
+
+-- A repeater passes a request down, and after a disturbed reply once more: what the line below is then, and what is heard last
+
+abbrev pub repeated-after : Bool → Sent → List Place → Heard → List Place
+repeated-after power q ps (nibble n) = ps
+repeated-after power q ps silence = ps
+repeated-after power q ps disturbed = line-after power q ps
+
+abbrev pub repeated-reply : Bool → Sent → List Place → Heard → Heard
+repeated-reply power q ps (nibble n) = nibble n
+repeated-reply power q ps silence = silence
+repeated-reply power q ps disturbed = line-reply power q ps

@@ -1,7 +1,7 @@
 ghost use mathlib.Core.Path.{_≡_};
 ghost use Rattle.values.specs.Tables.{table};
 ghost use Rattle.telegrams.specs.Requests.{sent, heard};
-ghost use Rattle.lines.specs.Lines.{halved, line-after, line-reply};
+ghost use Rattle.lines.specs.Lines.{halved, line-after, line-reply, repeated-after, repeated-reply};
 use super::line::Line;
 use telegrams::request::Reply;
 use telegrams::request::Request;
@@ -28,6 +28,21 @@ impl<L> Repeater<L> {
     }
 }
 
+impl<L: Line> Repeater<L> {
+    /// Passes a request down once more where the first reply was disturbed.
+    fn repeat(&mut self, request: Request, first: Reply) -> Reply
+        ensures power { λ _. ⌜ L·Line .power (now (self .exit) .below) ≡ L·Line .power (now (self .entry) .below) ⌝ }
+        ensures after { λ _. ⌜ table (L·Line .stations (now (self .exit) .below)) ≡ repeated-after (L·Line .power (now (self .entry) .below)) (sent request) (table (L·Line .stations (now (self .entry) .below))) (heard first) ⌝ }
+        ensures reply { λ r. ⌜ heard r ≡ repeated-reply (L·Line .power (now (self .entry) .below)) (sent request) (table (L·Line .stations (now (self .entry) .below))) (heard first) ⌝ }
+    {
+        match first {
+            Reply::Disturbed => self.below.carry(request),
+            Reply::Answer(_) => first,
+            Reply::Silence => first,
+        }
+    }
+}
+
 pub impl<L: Line> Line for Repeater<L> as RepeaterLine {
     ghost power = { λ r. L·Line .power (r .below) };
 
@@ -43,10 +58,9 @@ pub impl<L: Line> Line for Repeater<L> as RepeaterLine {
         ensures power { λ _. ⌜ L·Line .power (now (self .exit) .below) ≡ L·Line .power (now (self .entry) .below) ⌝ }
         ensures after { λ _. ⌜ table (λ a. halved (L·Line .stations (now (self .exit) .below) a)) ≡ line-after (L·Line .power (now (self .entry) .below)) (sent request) (table (λ a. halved (L·Line .stations (now (self .entry) .below) a))) ⌝ }
         ensures reply { λ r. ⌜ heard r ≡ line-reply (L·Line .power (now (self .entry) .below)) (sent request) (table (λ a. halved (L·Line .stations (now (self .entry) .below) a))) ⌝ }
+        ensures below { λ _. ⌜ table (L·Line .stations (now (self .exit) .below)) ≡ repeated-after (L·Line .power (now (self .entry) .below)) (sent request) (line-after (L·Line .power (now (self .entry) .below)) (sent request) (table (L·Line .stations (now (self .entry) .below)))) (line-reply (L·Line .power (now (self .entry) .below)) (sent request) (table (L·Line .stations (now (self .entry) .below)))) ⌝ }
     {
-        match self.below.carry(request) {
-            Reply::Disturbed => self.below.carry(request),
-            first => first,
-        }
+        let first = self.below.carry(request);
+        self.repeat(request, first)
     }
 }

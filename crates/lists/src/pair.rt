@@ -65,9 +65,10 @@ impl Lists {
         ensures lds { λ _. ⌜ now (self .exit) .lds ≡ removed (now (self .entry) .lds) (address .value) ⌝ }
         ensures las { λ _. ⌜ now (self .exit) .las ≡ removed (now (self .entry) .las) (address .value) ⌝ }
     {
+        let gone = address;
         *self = Lists {
-            lds: without(self.lds, address),
-            las: without(self.las, address),
+            lds: without(self.lds, gone),
+            las: without(self.las, gone),
         };
     }
 }

@@ -5,7 +5,7 @@ ghost use lib.ListN.{length};
 ghost use denote.Ref.{name, now};
 ghost use Rattle.values.specs.Refusals.{outcome, gives};
 ghost use Rattle.telegrams.specs.Requests.{with-nibble, write-parameter};
-ghost use Rattle.records.specs.Rows.{new-rows};
+ghost use Rattle.records.specs.Rows.{new-rows, row-at};
 ghost use Rattle.records.specs.Modes.{in-configuration};
 ghost use Rattle.records.specs.Records.{rows};
 ghost use Rattle.queues.specs.Fifo.{held, room, take-outcome, take-after, Unchanged-if-refused};
@@ -109,6 +109,13 @@ impl Master {
         self.offline = offline;
     }
 
+    /// Whether the module that an order is for is active.
+    fn serves(&self, order: Order) -> bool
+        ensures { λ r. ⌜ r ≡ row-at (ordered order .to) (rows (now (self .entry) .table)) .active ⌝ }
+    {
+        self.table.is_active(order.address())
+    }
+
     fn place(
         &self,
         orders: &mut Queue<Order>,
@@ -124,7 +131,7 @@ impl Master {
         let Phase::Normal = self.phase else {
             return Err(Refusal::WrongPhase);
         };
-        if !self.table.is_active(order.address()) {
+        if !self.serves(order) {
             return Err(Refusal::NotActive);
         }
         if orders.len().saturating_add(answers.len()) >= answers.capacity() {

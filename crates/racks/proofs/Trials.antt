@@ -13,7 +13,7 @@ use Rattle.values.proofs.Tables.{length-table, at-table, map-table}
 use Rattle.telegrams.specs.Requests.{Sent, Heard}
 use Rattle.stations.specs.Stations.{Place, vacant, after}
 use Rattle.stations.specs.Images.{word-of, power-word, powered-in, place-at, good-image, image-of}
-use Rattle.lines.specs.Lines.{at, line-after, line-reply, halved}
+use Rattle.lines.specs.Lines.{at, line-after, line-reply, halved, repeated-after}
 use Rattle.racks.specs.Racks.{Carried}
 use Rattle.racks.proofs.Images.{image-back}
 use Rattle.racks.proofs.Stores.{unpowered}
@@ -58,3 +58,7 @@ halved-replies q ws power before r p opened replied =
     replied
     ∙ ap (line-reply power q) (sym (map-table halved before) ∙ ap (map halved) opened)
     ∙ ap (λ (b : Bool). line-reply b q (map halved (table (place-at ws)))) p
+
+-- the image of a line that was asked through a repeater
+pub repeated-image : (q : Sent) (ws ws′ : List ℕ) (power power′ : Bool) (ps ps′ : List Place) → power ≡ powered-in ws → power′ ≡ power → ps ≡ table (place-at ws) → ps′ ≡ repeated-after power q (line-after power q ps) (line-reply power q ps) → ws′ ≡ image-of power′ ps′ → ws′ ≡ image-of (powered-in ws) (repeated-after (powered-in ws) q (line-after (powered-in ws) q (table (place-at ws))) (line-reply (powered-in ws) q (table (place-at ws))))
+repeated-image q ws ws′ power power′ ps ps′ p p′ opened passed written = cc

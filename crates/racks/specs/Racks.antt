@@ -18,7 +18,7 @@ use Rattle.telegrams.specs.Words.{Word-of}
 use Rattle.stations.specs.Stations.{Place, place-of, after}
 use Rattle.stations.specs.Images.{good-image, powered-in, place-at, word-of, image-of}
 use Rattle.values.specs.Tables.{table}
-use Rattle.lines.specs.Lines.{line-after, line-reply, halved}
+use Rattle.lines.specs.Lines.{line-after, line-reply, halved, repeated-after}
 
 -- The bench rack's table
 
@@ -63,10 +63,12 @@ Tried q ws ws′ (Ok y) =
     × (heard y ≡ line-reply (powered-in ws) q (table (place-at ws)))
 Tried q ws ws′ (Err e) = (good-image ws ≡ false) × (ws′ ≡ ws) × (numbered e ≡ 0x8313)
 
--- the same where the line is asked through a repeater, which halves every disturbance count
+-- the same where the line is asked through a repeater: the line below is asked once more after a disturbed reply, and the reply is that of
+-- the line with every disturbance count halved
 abbrev pub Tried-repeated : Sent → List ℕ → List ℕ → Result Reply Refusal → Type 0
 Tried-repeated q ws ws′ (Ok y) =
-    (good-image ws ≡ true) × (good-image ws′ ≡ true) × (powered-in ws′ ≡ powered-in ws)
+    (good-image ws ≡ true)
+    × (ws′ ≡ image-of (powered-in ws) (repeated-after (powered-in ws) q (line-after (powered-in ws) q (table (place-at ws))) (line-reply (powered-in ws) q (table (place-at ws)))))
     × (map halved (table (place-at ws′)) ≡ line-after (powered-in ws) q (map halved (table (place-at ws))))
     × (heard y ≡ line-reply (powered-in ws) q (map halved (table (place-at ws))))
 Tried-repeated q ws ws′ (Err e) = (good-image ws ≡ false) × (ws′ ≡ ws) × (numbered e ≡ 0x8313)

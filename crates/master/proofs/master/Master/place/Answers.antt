@@ -18,7 +18,7 @@ returns c =
     let orders = c .args .orders .now in
     let answers = c .args .answers .now in
     let q = ordered (c .args .order) in
-    let active : row-at (q .to) rs .active ≡ true = ap (λ (a : ℕ). row-at a rs .active) (sym (c .address .ensures)) ∙ sym (c .if-not-is-active .ensures tt) in
+    let active : row-at (q .to) rs .active ≡ true = sym (c .if-not-serves .ensures tt) in
     let free : length (held orders) + length (held answers) < room answers = omega (arith, c .len .ensures .is, c .len-2 .ensures .is, c .saturating-add .ensures, c .capacity .ensures) in
     record {
       result =

@@ -203,7 +203,7 @@ pub fn collect(answers: &mut Queue<Answer>) -> Result<Answer, Refusal>
     ensures result { λ r. ⌜ outcome (λ x. x) r ≡ take-outcome (held (now (answers .entry))) ⌝ }
     ensures after { λ _. ⌜ held (now (answers .exit)) ≡ take-after (held (now (answers .entry))) ⌝ }
     ensures refused { λ r. ⌜ Unchanged-if-refused r (now (answers .entry)) (now (answers .exit)) ⌝ }
-    ensures room { λ _. ⌜ room (now (answers .exit)) ≡ room (now (answers .entry)) ⌝ }
+    ensures same { λ _. ⌜ now (now (answers .exit) .slots) ≡ now (now (answers .entry) .slots) ⌝ }
     ensures lender { λ _. ⌜ name (now (answers .exit) .slots) ≡ name (now (answers .entry) .slots) ⌝ }
 {
     answers.take()

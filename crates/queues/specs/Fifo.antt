@@ -8,7 +8,7 @@ use mathlib.Core.Path.{_≡_}
 use Prim.Native.Nat.{ℕ, _+_, _-_}
 use denote.Ref.{now}
 use lib.Dec.{ltb}
-use lib.ListN.{length, take, drop}
+use lib.ListN.{length, take, drop, set}
 use Rattle.std.specs.declared.option.Option.{Option}
 use Rattle.std.specs.declared.option.Option.the-variants.{Some, None}
 use Rattle.std.specs.declared.result.Result.{Result}
@@ -54,6 +54,13 @@ abbrev pub Unchanged-if-refused : {A Q : Type 0} → Result A Refusal → Q → 
 Unchanged-if-refused (Ok x) before after = Unit {0}
 Unchanged-if-refused (Err e) before after = after ≡ before
 
--- for the private functions: where in a slice of n the element stands that is k behind the one at the head
+-- where in a slice of n the element stands that is k behind the one at the head: after the last place comes the first
 abbrev pub place-of : ℕ → ℕ → ℕ → ℕ
 place-of n head k = cond (ltb k (n - head)) (head + k) (k - (n - head))
+
+-- the place behind the newest element, and the slice after a put: no other place is written
+abbrev pub free-place : {T : Type 0} → Queue T → ℕ
+free-place q = place-of (room q) (q .head) (length (held q))
+
+abbrev pub slots-after : {T : Type 0} → Queue T → T → List T
+slots-after q x = cond (ltb (length (held q)) (room q)) (set (now (q .slots)) (free-place q) x) (now (q .slots))

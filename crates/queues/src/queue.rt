@@ -1,10 +1,10 @@
 ghost use mathlib.Core.Path.{_≡_};
 ghost use mathlib.Core.List.{[], _∷_, _++_};
 ghost use Prim.Native.Nat.{_+_, _<_, _≤_};
-ghost use lib.ListN.{length, drop};
+ghost use lib.ListN.{length, drop, set};
 ghost use denote.Ref.{name, now};
 ghost use Rattle.values.specs.Refusals.{outcome};
-ghost use Rattle.queues.specs.Fifo.{held, room, put-outcome, put-after, take-outcome, take-after, oldest-of, Unchanged-if-refused, place-of};
+ghost use Rattle.queues.specs.Fifo.{held, room, put-outcome, put-after, take-outcome, take-after, oldest-of, Unchanged-if-refused, place-of, free-place, slots-after};
 use values::refusal::Refusal;
 
 /// First in, first out over the caller's slice; freed places are used again.
@@ -36,6 +36,7 @@ impl<'a, T: Copy> Queue<'a, T> {
     pub fn put(&mut self, x: T) -> Result<(), Refusal>
         ensures outcome { λ r. ⌜ outcome (λ u. u) r ≡ put-outcome (room (now (self .entry))) (held (now (self .entry))) ⌝ }
         ensures after { λ _. ⌜ held (now (self .exit)) ≡ put-after (room (now (self .entry))) (held (now (self .entry))) x ⌝ }
+        ensures slots { λ _. ⌜ now (now (self .exit) .slots) ≡ slots-after (now (self .entry)) x ⌝ }
         ensures refused { λ r. ⌜ Unchanged-if-refused r (now (self .entry)) (now (self .exit)) ⌝ }
         ensures room { λ _. ⌜ room (now (self .exit)) ≡ room (now (self .entry)) ⌝ }
         ensures lender { λ _. ⌜ name (now (self .exit) .slots) ≡ name (now (self .entry) .slots) ⌝ }
@@ -116,6 +117,7 @@ impl<'a, T: Copy> Queue<'a, T> {
     fn append(&mut self, x: T)
         requires { ⌜ length (held (now self)) < room (now self) ⌝ }
         ensures after { λ _. ⌜ held (now (self .exit)) ≡ held (now (self .entry)) ++ x ∷ [] ⌝ }
+        ensures slots { λ _. ⌜ now (now (self .exit) .slots) ≡ set (now (now (self .entry) .slots)) (free-place (now (self .entry))) x ⌝ }
         ensures room { λ _. ⌜ room (now (self .exit)) ≡ room (now (self .entry)) ⌝ }
         ensures lender { λ _. ⌜ name (now (self .exit) .slots) ≡ name (now (self .entry) .slots) ⌝ }
     {

@@ -97,3 +97,25 @@ module _ (visit : ℕ → Row → Place → Visit) (rs : List Row) (ps : List Pl
         places-after = below .places-so-far ∙ ap (λ (k : ℕ). table (filling k new-place-at old-place-at)) e ∙ fill-all new-place-at old-place-at vacant;
         counted = below .count-so-far ∙ ap (λ (k : ℕ). length (sent-below k asked-at)) e;
       }
+
+-- A loop that changes one row after another, with no line
+module _ (change : Row → Row) (rs : List Row) where
+  abbrev changed-row : ℕ → Row
+  changed-row k = change (row-at k rs)
+
+  abbrev kept-row : ℕ → Row
+  kept-row k = row-at k rs
+
+  pub changing-starts : length rs ≡ 32 → rs ≡ table (filling 0 changed-row kept-row)
+  changing-starts sized = is-table (filling 0 changed-row kept-row) rs new-row sized (λ k h. sym (cond-false _ (changed-row k) (kept-row k) (le-ltb k 0 (omega arith))))
+
+  pub changing-goes-on : (i a : ℕ) (rs′ rs″ : List Row) → i < 32 → a ≡ i → rs′ ≡ table (filling i changed-row kept-row) → rs″ ≡ set rs′ a (change (row-at a rs′)) → rs″ ≡ table (filling (i + 1) changed-row kept-row)
+  changing-goes-on i a rs′ rs″ h to so-far written =
+      written
+      ∙ ap (λ (n : ℕ). set rs′ n (change (row-at n rs′))) to
+      ∙ ap (λ (l : List Row). set l i (change (row-at i l))) so-far
+      ∙ ap (λ (r : Row). set (table (filling i changed-row kept-row)) i (change r)) (at-filling changed-row kept-row i new-row h)
+      ∙ fill-more changed-row kept-row i new-row h
+
+  pub changing-ends : (i : ℕ) (rs′ : List Row) → i ≡ 32 → rs′ ≡ table (filling i changed-row kept-row) → rs′ ≡ table (λ k. change (row-at k rs))
+  changing-ends i rs′ e done = done ∙ ap (λ (n : ℕ). table (filling n changed-row kept-row)) e ∙ fill-all changed-row kept-row new-row

@@ -5,7 +5,7 @@ ghost use Rattle.values.specs.Tables.{table};
 ghost use Rattle.records.specs.Rows.{row-at};
 ghost use Rattle.records.specs.Records.{rows, with-entry};
 ghost use Rattle.phases.specs.Visits.{Visited, All-visited};
-ghost use Rattle.phases.specs.Exchange.{missed, exchange-visit};
+ghost use Rattle.phases.specs.Exchange.{dropped, missed, exchange-visit};
 use lines::line::Line;
 use records::entry::Codes;
 use records::entry::Entry;
@@ -19,6 +19,26 @@ use values::nibble::Nibble;
 /// How many misses in succession an address keeps before it is dropped.
 const KEPT_MISSES: u8 = 2;
 
+/// Takes an address out of LDS and LAS, and sets what was detected there as in a new record.
+pub fn forget_at(target: &mut Record, address: Address)
+    ensures mode { λ _. ⌜ now (target .exit) .mode ≡ now (target .entry) .mode ⌝ }
+    ensures rows { λ _. ⌜ rows (now (target .exit)) ≡ set (rows (now (target .entry))) (address .value) (dropped (row-at (address .value) (rows (now (target .entry))))) ⌝ }
+{
+    let entry = target.entry(address);
+    let full = Nibble::low(15);
+    let cdi = Codes { io: full, id: full };
+    let idi = Nibble::low(0);
+    target.forget(
+        address,
+        Entry {
+            cdi,
+            idi,
+            misses: 0,
+            ..entry
+        },
+    );
+}
+
 /// One more miss: the third in succession drops the address.
 fn miss(target: &mut Record, address: Address)
     ensures mode { λ _. ⌜ now (target .exit) .mode ≡ now (target .entry) .mode ⌝ }
@@ -29,18 +49,7 @@ fn miss(target: &mut Record, address: Address)
         let misses = entry.misses + 1;
         target.set_entry(address, Entry { misses, ..entry });
     } else {
-        let full = Nibble::low(15);
-        let cdi = Codes { io: full, id: full };
-        let idi = Nibble::low(0);
-        target.forget(
-            address,
-            Entry {
-                cdi,
-                idi,
-                misses: 0,
-                ..entry
-            },
-        );
+        forget_at(target, address);
     }
 }
 

@@ -11,9 +11,10 @@ use Rattle.values.specs.Refusals.{Outcome, gives, refuses}
 use Rattle.telegrams.specs.Requests.{Sent}
 use Rattle.records.specs.Rows.{Row, row-at}
 use Rattle.queues.specs.Fifo.{put-outcome, put-after}
-use Rattle.master.specs.Orders.{ordered, is-normal, place-outcome, orders-after}
+use Rattle.orders.specs.Orders.{ordered}
+use Rattle.master.specs.Placing.{is-normal, place-outcome, orders-after}
 use Rattle.master.specs.declared.master.Phase.{Phase}
-use Rattle.master.specs.declared.order.Order.{Order}
+use Rattle.orders.specs.declared.order.Order.{Order}
 
 and-true : (x y : Bool) → y ≡ true → (x && y) ≡ x
 and-true true y e = e

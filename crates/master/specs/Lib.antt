@@ -1,2 +1,2 @@
-pub mod Orders
+pub mod Placing
 pub mod Listings

@@ -1,3 +1,2 @@
-//! The execution control of one AS-i master: its state, the controller's orders and their answers.
+//! The execution control of one AS-i master: its state and the calls of the controller.
 pub mod master;
-pub mod order;

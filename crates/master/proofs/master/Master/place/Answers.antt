@@ -7,7 +7,8 @@ use Rattle.values.specs.Refusals.{outcome}
 use Rattle.records.specs.Rows.{row-at}
 use Rattle.records.specs.Records.{rows}
 use Rattle.queues.specs.Fifo.{held, room}
-use Rattle.master.specs.Orders.{ordered, is-normal}
+use Rattle.orders.specs.Orders.{ordered}
+use Rattle.master.specs.Placing.{is-normal}
 use Rattle.master.proofs.Placing.{put-is-placed, put-follows}
 use Rattle.master.proofs.master.Master.place.Needs as need
 

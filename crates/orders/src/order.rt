@@ -1,7 +1,7 @@
 ghost use mathlib.Core.Path.{_≡_};
 ghost use Rattle.values.specs.Refusals.{outcome};
 ghost use Rattle.telegrams.specs.Requests.{sent, with-nibble, write-parameter};
-ghost use Rattle.master.specs.Orders.{ordered, reset-ordered, done-number};
+ghost use Rattle.orders.specs.Orders.{ordered, reset-ordered, ending, ending-number, requests-of};
 use telegrams::request::Request;
 use values::address::Address;
 use values::module_address::ModuleAddress;
@@ -62,13 +62,25 @@ impl Done {
     /// The number that the controller is given where no nibble came: 8382 for an address that was not active, 8383 for silence and for a
     /// disturbed reply; 0 where a nibble came.
     pub fn number(self) -> u16
-        ensures { λ r. ⌜ r ≡ done-number self ⌝ }
+        ensures { λ r. ⌜ r ≡ ending-number (ending self) ⌝ }
     {
         match self {
             Done::Answered(_) => 0,
             Done::NotActive => 0x8382,
             Done::Silent => 0x8383,
             Done::Disturbed => 0x8383,
+        }
+    }
+
+    /// How many requests were sent.
+    pub fn requests(self) -> u32
+        ensures { λ r. ⌜ r ≡ requests-of (ending self) ⌝ }
+    {
+        match self {
+            Done::NotActive => 0,
+            Done::Answered(_) => 1,
+            Done::Silent => 1,
+            Done::Disturbed => 1,
         }
     }
 }

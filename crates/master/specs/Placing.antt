@@ -1,4 +1,4 @@
--- Orders of the controller: what each sends, and when placing one is refused.
+-- Placing an order: when it is refused, and what the queue holds afterwards.
 -- The refusals come in the order of the product's table: a bad address, a bad value, a wrong phase, an inactive address, no room.
 use Prim.Native.Nat.{ℕ, _+_}
 use mathlib.Core.Bool.{Bool, true, false, cond, _&&_}
@@ -6,30 +6,10 @@ use mathlib.Core.List.{List, [], _∷_, _++_}
 use mathlib.Core.Path.{_≡_}
 use lib.Dec.{ltb}
 use Rattle.values.specs.Refusals.{Outcome, gives, refuses, refuses-for}
-use Rattle.telegrams.specs.Requests.{Sent, write-parameter, resetting}
-use Rattle.records.specs.Rows.{Row, row-at, is-module-address}
+use Rattle.telegrams.specs.Requests.{Sent}
+use Rattle.records.specs.Rows.{Row, row-at}
 use Rattle.master.specs.declared.master.Phase.{Phase}
 use Rattle.master.specs.declared.master.Phase.the-variants.{Offline, Detection, Activation, Normal}
-use Rattle.master.specs.declared.order.Done.{Done}
-use Rattle.master.specs.declared.order.Done.the-variants.{Answered, NotActive, Silent, Disturbed}
-use Rattle.master.specs.declared.order.Order.{Order}
-use Rattle.master.specs.declared.order.Order.the-variants.{Parameter, Reset}
-
--- an order is the request that carries it out
-abbrev pub ordered : Order → Sent
-ordered (Parameter a n) = record { to = a .value; asking = write-parameter (n .value) }
-ordered (Reset a) = record { to = a .value; asking = resetting }
-
--- what became of an order, by its number; 0 where a nibble came
-abbrev pub done-number : Done → ℕ
-done-number (Answered n) = 0
-done-number NotActive = 0x8382
-done-number Silent = 0x8383
-done-number Disturbed = 0x8383
-
--- a reset order from any number
-abbrev pub reset-ordered : ℕ → Outcome Sent
-reset-ordered a = cond (is-module-address a) (gives (record { to = a; asking = resetting })) (refuses 0x8381)
 
 abbrev pub is-normal : Phase → Bool
 is-normal Offline = false

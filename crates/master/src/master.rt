@@ -9,6 +9,7 @@ ghost use Rattle.records.specs.Rows.{new-rows, row-at};
 ghost use Rattle.records.specs.Modes.{in-configuration};
 ghost use Rattle.records.specs.Records.{rows};
 ghost use Rattle.queues.specs.Fifo.{held, room, take-outcome, take-after, Unchanged-if-refused};
+ghost use Rattle.search.specs.Steps.{stage, seek};
 ghost use Rattle.orders.specs.Orders.{ordered, reset-ordered};
 ghost use Rattle.master.specs.Placing.{place-outcome, orders-after, Placed, is-normal};
 ghost use Rattle.master.specs.Listings.{Listed};
@@ -17,6 +18,7 @@ use orders::order::Order;
 use queues::queue::Queue;
 use records::record::Mode;
 use records::record::Record;
+use search::step::Step;
 use values::address::Address;
 use values::refusal::Refusal;
 
@@ -26,14 +28,6 @@ pub enum Phase {
     Detection,
     Activation,
     Normal,
-}
-
-/// Where the search for modules stands: seeking from an address on, naming one that gave its I/O code, or entering one.
-#[derive(Clone, Copy)]
-pub enum Step {
-    Seek(u8),
-    Name(u8, u8),
-    Enter(u8),
 }
 
 fn is_configuration(mode: Mode) -> bool
@@ -88,14 +82,14 @@ impl Master {
         ensures offline { λ r. ⌜ r .offline ≡ false ⌝ }
         ensures power_fail { λ r. ⌜ r .«power_fail» ≡ false ⌝ }
         ensures phase { λ r. ⌜ r .phase ≡ Phase.Offline ⌝ }
-        ensures step { λ r. ⌜ r .step ≡ Step.Seek 0 ⌝ }
+        ensures step { λ r. ⌜ stage (r .step) ≡ seek 0 ⌝ }
     {
         Master {
             table: Record::new(),
             offline: false,
             power_fail: false,
             phase: Phase::Offline,
-            step: Step::Seek(0),
+            step: Step::Seek(Address::low(0)),
         }
     }
 

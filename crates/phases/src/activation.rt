@@ -16,7 +16,7 @@ use values::module_address::ModuleAddress;
 use values::nibble::Nibble;
 
 /// Whether a module with the codes that were detected at an address may be activated.
-fn is_admissible(target: &Record, address: Address) -> bool
+pub fn is_admissible(target: &Record, address: Address) -> bool
     ensures { λ r. ⌜ r ≡ admissible (now (target .entry) .mode) (address .value) (row-at (address .value) (rows (now (target .entry)))) ⌝ }
 {
     let entry = target.entry(address);
@@ -30,7 +30,7 @@ fn is_admissible(target: &Record, address: Address) -> bool
 }
 
 /// Sets PI to PP and sends it; where a nibble comes, the address joins LAS.
-fn enter<L: Line>(target: &mut Record, line: &mut L, address: ModuleAddress)
+pub fn enter<L: Line>(target: &mut Record, line: &mut L, address: ModuleAddress)
     ensures mode { λ _. ⌜ now (target .exit) .mode ≡ now (target .entry) .mode ⌝ }
     ensures power { λ _. ⌜ power (now (line .exit)) ≡ power (now (line .entry)) ⌝ }
     ensures visited { λ _. ⌜ Visited (enter-visit (power (now (line .entry)))) (address .value) (rows (now (target .entry))) (rows (now (target .exit))) (table (stations (now (line .entry)))) (table (stations (now (line .exit)))) 1 ⌝ }

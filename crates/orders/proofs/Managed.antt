@@ -17,7 +17,7 @@ use Rattle.queues.specs.Fifo.{oldest-of, take-after, put-after}
 use Rattle.records.specs.Rows.{Row, new-row, row-at}
 use Rattle.phases.specs.Visits.{Visit, Visited}
 use Rattle.phases.proofs.Visits.{unvisited}
-use Rattle.orders.specs.Orders.{ordered, Ending, replied, inactive, ending, requests-of, Told, told}
+use Rattle.orders.specs.Orders.{ordered, Ending, replied, inactive, ending, requests-of, told}
 use Rattle.orders.specs.Management.{managed, manage-visit, manage-ending, next-order, Managed}
 use Rattle.orders.specs.declared.order.Answer.{Answer}
 use Rattle.orders.specs.declared.order.Done.{Done}

@@ -1,5 +1,6 @@
--- Management: it takes the oldest order, where one waits and the answer queue is not full. An order for an address that is not in LAS ends with 8382, and nothing is sent. Any other is sent, and ends with what is heard. A
--- nibble for a parameter order sets PI to the ordered value.
+-- Management takes the oldest order, where one waits and the answer queue is not full. An order for an address that is not in LAS ends
+-- with 8382, and nothing is sent. Any other is sent, and ends with what is heard. A nibble for a parameter order sets PI to the ordered
+-- value. What is sent and heard is that of a line's one station, so that the same rule holds on every kind of line.
 use Prim.Native.Nat.{ℕ}
 use mathlib.Core.Path.{_≡_}
 use mathlib.Core.Bool.{Bool, cond}

@@ -87,6 +87,7 @@ pub fn manage<L: Line>(
         return 0;
     };
     let done = carry_out(target, line, order);
+    // Neither can be refused: `next` found an order, and room for its answer.
     let _ = orders.take();
     let _ = answers.put(Answer { order, done });
     done.requests()

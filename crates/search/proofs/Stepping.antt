@@ -1,19 +1,17 @@
 -- One step of the search at its address: a visit that keeps the row, and the next step.
-use Prim.Native.Nat.{ℕ, _<_, _≤_}
+use Prim.Native.Nat.{ℕ, _<_}
 use mathlib.Core.Path.{_≡_, refl, ap, sym, subst, _∙_}
-use mathlib.Core.Bool.{Bool, true}
-use mathlib.Core.List.{List, [], _∷_}
-use native.Mathlib.Omega.{arith}
+use mathlib.Core.Bool.{Bool}
+use mathlib.Core.List.{List}
 use lib.ListN.{length, set}
 use Rattle.std.proofs.shelf.Lists.{set-getD, getD-set-same}
-use Rattle.std.proofs.shelf.Tests.{both-ways}
 use Rattle.telegrams.specs.Requests.{Heard, read-io}
 use Rattle.stations.specs.Stations.{Place, after, reply}
 use Rattle.lines.specs.Lines.{at}
 use Rattle.records.specs.Rows.{Row, new-row, row-at}
 use Rattle.records.specs.declared.record.Mode.{Mode}
 use Rattle.phases.specs.Activation.{admissible}
-use Rattle.phases.specs.Visits.{Visit, Visited}
+use Rattle.phases.specs.Visits.{Visited}
 use Rattle.search.specs.Steps.{Stage, seek, step-after}
 use Rattle.search.specs.Searches.{sought, search-visit, taken-by, deciding, next-step, Searched}
 

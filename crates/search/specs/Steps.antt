@@ -1,5 +1,6 @@
 -- The steps of the search: seeking from an address on, naming one that gave its I/O code, entering one.
--- The step and the reply together decide the next step, and the rules are written out case by case.
+-- The step and the reply together decide the next step, and the rules are written out case by case. Which address seeking takes is said
+-- twice: as the relation First, in the rule's own words, and as a function. The contract of `pick` has both.
 use Prim.Native.Nat.{ℕ, zero, suc, _+_}
 use mathlib.Core.Path.{_≡_}
 use mathlib.Core.Bool.{Bool, true, false, cond}

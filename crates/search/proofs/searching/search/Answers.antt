@@ -1,4 +1,4 @@
-use mathlib.Core.Path.{_≡_, refl, ap}
+use mathlib.Core.Path.{refl, ap}
 use native.Mathlib.Omega.{arith}
 use Rattle.values.specs.Tables.{table}
 use Rattle.telegrams.specs.Requests.{heard, silence}

@@ -1,7 +1,6 @@
-use mathlib.Core.Path.{_≡_, refl, ap, sym, _∙_}
+use mathlib.Core.Path.{refl, ap}
 use Rattle.values.specs.Tables.{table}
 use Rattle.telegrams.specs.Requests.{heard}
-use Rattle.stations.specs.Stations.{after, reply}
 use Rattle.records.specs.Rows.{row-at}
 use Rattle.records.specs.Records.{rows}
 use Rattle.telegrams.specs.declared.request.Reply.{Reply}

@@ -29,7 +29,7 @@ const SCRIPT: [Call<'static>; CALLS] = [
 
 /// Four cycles of a new master, each followed by a reading of the lists.
 pub fn on_line<L: Line>(line: &mut L) -> [Outcome; CALLS]
-    ensures { map came result ≡ undisturbed script (meaning (power line.old) (stations line.old)) (new_card 0 0) }
+    ensures { map came result ≡ undisturbed script (meaning (L.power line.old) (L.stations line.old)) (new_card 0 0) }
 {
     let mut log = [Outcome::Done; CALLS];
     // No order is placed, so the queues need no places.

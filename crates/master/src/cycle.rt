@@ -62,7 +62,7 @@ impl Master {
         orders: &mut Queue<Order>,
         answers: &mut Queue<Answer>,
     ) -> u32
-        ensures became { Became (run Phase.Normal (beginning (card_of self.old orders.old answers.old) (meaning (power line.old) (stations line.old)))) (card_of self.new orders.new answers.new) (meaning (power line.new) (stations line.new)) result }
+        ensures became { Became (run Phase.Normal (beginning (card_of self.old orders.old answers.old) (meaning (L.power line.old) (L.stations line.old)))) (card_of self.new orders.new answers.new) (meaning (L.power line.new) (L.stations line.new)) result }
         ensures order_slots { orders.new.slots.now ≡ orders.old.slots.now }
         ensures answer_slots { FreeWritten answers.old answers.new }
         ensures order_lender { orders.new.slots.ghost_name ≡ orders.old.slots.ghost_name }
@@ -83,7 +83,7 @@ impl Master {
         orders: &mut Queue<Order>,
         answers: &mut Queue<Answer>,
     ) -> u32
-        ensures became { Became (run phase (beginning (card_of self.old orders.old answers.old) (meaning (power line.old) (stations line.old)))) (card_of self.new orders.new answers.new) (meaning (power line.new) (stations line.new)) result }
+        ensures became { Became (run phase (beginning (card_of self.old orders.old answers.old) (meaning (L.power line.old) (L.stations line.old)))) (card_of self.new orders.new answers.new) (meaning (L.power line.new) (L.stations line.new)) result }
         ensures order_slots { orders.new.slots.now ≡ orders.old.slots.now }
         ensures answer_slots { FreeWritten answers.old answers.new }
         ensures order_lender { orders.new.slots.ghost_name ≡ orders.old.slots.ghost_name }
@@ -113,7 +113,7 @@ impl Master {
         orders: &mut Queue<Order>,
         answers: &mut Queue<Answer>,
     ) -> Report
-        ensures cycled { Cycled (card_of self.old orders.old answers.old) (meaning (power line.old) (stations line.old)) result.phase result.requests (card_of self.new orders.new answers.new) (meaning (power line.new) (stations line.new)) }
+        ensures cycled { Cycled (card_of self.old orders.old answers.old) (meaning (L.power line.old) (L.stations line.old)) result.phase result.requests (card_of self.new orders.new answers.new) (meaning (L.power line.new) (L.stations line.new)) }
         ensures order_slots { orders.new.slots.now ≡ orders.old.slots.now }
         ensures answer_slots { FreeWritten answers.old answers.new }
         ensures order_lender { orders.new.slots.ghost_name ≡ orders.old.slots.ghost_name }

@@ -34,9 +34,9 @@ fn note(target: &mut Record, order: Order)
 /// Carries an order out where its address is active.
 pub fn carry_out<L: Line>(target: &mut Record, line: &mut L, order: Order) -> Done
     ensures mode { target.new.mode ≡ target.old.mode }
-    ensures power { power line.new ≡ power line.old }
-    ensures ends { ending result ≡ manage_ending (power line.old) (ordered order).asking (row_at (ordered order).to (rows target.old)) (at (table (stations line.old)) (ordered order).to) }
-    ensures visited { Visited (manage_visit (power line.old) (ordered order).asking) (ordered order).to (rows target.old) (rows target.new) (table (stations line.old)) (table (stations line.new)) (requests_of (ending result)) }
+    ensures power { L.power line.new ≡ L.power line.old }
+    ensures ends { ending result ≡ manage_ending (L.power line.old) (ordered order).asking (row_at (ordered order).to (rows target.old)) (at (table (L.stations line.old)) (ordered order).to) }
+    ensures visited { Visited (manage_visit (L.power line.old) (ordered order).asking) (ordered order).to (rows target.old) (rows target.new) (table (L.stations line.old)) (table (L.stations line.new)) (requests_of (ending result)) }
 {
     if !target.is_active(order.address()) {
         return Done::NotActive;
@@ -70,9 +70,9 @@ pub fn manage<L: Line>(
     answers: &mut Queue<Answer>,
 ) -> u32
     ensures mode { target.new.mode ≡ target.old.mode }
-    ensures power { power line.new ≡ power line.old }
+    ensures power { L.power line.new ≡ L.power line.old }
     ensures few { result ≤ 1 }
-    ensures managed { Managed (power line.old) (next_order (room answers.old) (length (held answers.old)) (held orders.old)) (held orders.old) (held orders.new) (map told (held answers.old)) (map told (held answers.new)) (rows target.old) (rows target.new) (table (stations line.old)) (table (stations line.new)) result }
+    ensures managed { Managed (L.power line.old) (next_order (room answers.old) (length (held answers.old)) (held orders.old)) (held orders.old) (held orders.new) (map told (held answers.old)) (map told (held answers.new)) (rows target.old) (rows target.new) (table (L.stations line.old)) (table (L.stations line.new)) result }
     ensures order_slots { orders.new.slots.now ≡ orders.old.slots.now }
     ensures answer_slots { FreeWritten answers.old answers.new }
     ensures order_room { room orders.new ≡ room orders.old }

@@ -30,8 +30,8 @@ pub fn is_admissible(target: &Record, address: Address) -> bool
 /// Sets PI to PP and sends it; where a nibble comes, the address joins LAS.
 pub fn enter<L: Line>(target: &mut Record, line: &mut L, address: ModuleAddress)
     ensures mode { target.new.mode ≡ target.old.mode }
-    ensures power { power line.new ≡ power line.old }
-    ensures visited { Visited (enter_visit (power line.old)) address.value (rows target.old) (rows target.new) (table (stations line.old)) (table (stations line.new)) 1 }
+    ensures power { L.power line.new ≡ L.power line.old }
+    ensures visited { Visited (enter_visit (L.power line.old)) address.value (rows target.old) (rows target.new) (table (L.stations line.old)) (table (L.stations line.new)) 1 }
 {
     let at = Address::low(u32::from(address.get()));
     let entry = target.entry(at);
@@ -57,9 +57,9 @@ pub fn enter<L: Line>(target: &mut Record, line: &mut L, address: ModuleAddress)
 /// Enters an address that is detected and admissible; how many requests were sent.
 fn activate_at<L: Line>(target: &mut Record, line: &mut L, address: ModuleAddress) -> u32
     ensures mode { target.new.mode ≡ target.old.mode }
-    ensures power { power line.new ≡ power line.old }
+    ensures power { L.power line.new ≡ L.power line.old }
     ensures few { result ≤ 1 }
-    ensures visited { Visited (activate_visit target.old.mode (power line.old) address.value) address.value (rows target.old) (rows target.new) (table (stations line.old)) (table (stations line.new)) result }
+    ensures visited { Visited (activate_visit target.old.mode (L.power line.old) address.value) address.value (rows target.old) (rows target.new) (table (L.stations line.old)) (table (L.stations line.new)) result }
 {
     let at = Address::low(u32::from(address.get()));
     if !target.is_detected(at) {
@@ -75,9 +75,9 @@ fn activate_at<L: Line>(target: &mut Record, line: &mut L, address: ModuleAddres
 /// Enters every address that is detected and admissible, lowest first; how many requests were sent.
 pub fn activate<L: Line>(target: &mut Record, line: &mut L) -> u32
     ensures mode { target.new.mode ≡ target.old.mode }
-    ensures power { power line.new ≡ power line.old }
+    ensures power { L.power line.new ≡ L.power line.old }
     ensures few { result ≤ 31 }
-    ensures visited { AllVisited (activate_visit target.old.mode (power line.old)) (rows target.old) (rows target.new) (table (stations line.old)) (table (stations line.new)) result }
+    ensures visited { AllVisited (activate_visit target.old.mode (L.power line.old)) (rows target.old) (rows target.new) (table (L.stations line.old)) (table (L.stations line.new)) result }
 {
     let mut sent = 0;
     for a in 1..32u32 {

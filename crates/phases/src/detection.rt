@@ -14,8 +14,8 @@ use values::nibble::Nibble;
 /// Reads the ID code of a module that gave its I/O code, and puts its address into LDS where it came.
 fn name_at<L: Line>(target: &mut Record, line: &mut L, address: Address, io: Nibble)
     ensures mode { target.new.mode ≡ target.old.mode }
-    ensures power { power line.new ≡ power line.old }
-    ensures visited { Visited (name_visit (power line.old) io.value) address.value (rows target.old) (rows target.new) (table (stations line.old)) (table (stations line.new)) 1 }
+    ensures power { L.power line.new ≡ L.power line.old }
+    ensures visited { Visited (name_visit (L.power line.old) io.value) address.value (rows target.old) (rows target.new) (table (L.stations line.old)) (table (L.stations line.new)) 1 }
 {
     match line.carry(Request::ReadId(address)) {
         Reply::Answer(id) => {
@@ -31,9 +31,9 @@ fn name_at<L: Line>(target: &mut Record, line: &mut L, address: Address, io: Nib
 /// Reads the codes at one address, and puts it into LDS where both came; how many requests were sent.
 fn detect_at<L: Line>(target: &mut Record, line: &mut L, address: Address) -> u32
     ensures mode { target.new.mode ≡ target.old.mode }
-    ensures power { power line.new ≡ power line.old }
+    ensures power { L.power line.new ≡ L.power line.old }
     ensures few { result ≤ 2 }
-    ensures visited { Visited (detect_visit (power line.old)) address.value (rows target.old) (rows target.new) (table (stations line.old)) (table (stations line.new)) result }
+    ensures visited { Visited (detect_visit (L.power line.old)) address.value (rows target.old) (rows target.new) (table (L.stations line.old)) (table (L.stations line.new)) result }
 {
     match line.carry(Request::ReadIo(address)) {
         Reply::Answer(io) => {
@@ -48,9 +48,9 @@ fn detect_at<L: Line>(target: &mut Record, line: &mut L, address: Address) -> u3
 /// Detection at all addresses, lowest first; how many requests were sent.
 pub fn detect<L: Line>(target: &mut Record, line: &mut L) -> u32
     ensures mode { target.new.mode ≡ target.old.mode }
-    ensures power { power line.new ≡ power line.old }
+    ensures power { L.power line.new ≡ L.power line.old }
     ensures few { result ≤ 64 }
-    ensures visited { AllVisited (λ a. detect_visit (power line.old)) (rows target.old) (rows target.new) (table (stations line.old)) (table (stations line.new)) result }
+    ensures visited { AllVisited (λ a. detect_visit (L.power line.old)) (rows target.old) (rows target.new) (table (L.stations line.old)) (table (L.stations line.new)) result }
 {
     let mut sent = 0;
     for a in 0..32u32 {

@@ -53,9 +53,9 @@ fn miss(target: &mut Record, address: Address)
 /// Data exchange with one address, where it is active; how many requests were sent.
 fn exchange_at<L: Line>(target: &mut Record, line: &mut L, address: ModuleAddress) -> u32
     ensures mode { target.new.mode ≡ target.old.mode }
-    ensures power { power line.new ≡ power line.old }
+    ensures power { L.power line.new ≡ L.power line.old }
     ensures few { result ≤ 1 }
-    ensures visited { Visited (exchange_visit (power line.old)) address.value (rows target.old) (rows target.new) (table (stations line.old)) (table (stations line.new)) result }
+    ensures visited { Visited (exchange_visit (L.power line.old)) address.value (rows target.old) (rows target.new) (table (L.stations line.old)) (table (L.stations line.new)) result }
 {
     let at = Address::low(u32::from(address.get()));
     if !target.is_active(at) {
@@ -80,9 +80,9 @@ fn exchange_at<L: Line>(target: &mut Record, line: &mut L, address: ModuleAddres
 /// Data exchange with every active address, lowest first; how many requests were sent.
 pub fn exchange<L: Line>(target: &mut Record, line: &mut L) -> u32
     ensures mode { target.new.mode ≡ target.old.mode }
-    ensures power { power line.new ≡ power line.old }
+    ensures power { L.power line.new ≡ L.power line.old }
     ensures few { result ≤ 31 }
-    ensures visited { AllVisited (λ a. exchange_visit (power line.old)) (rows target.old) (rows target.new) (table (stations line.old)) (table (stations line.new)) result }
+    ensures visited { AllVisited (λ a. exchange_visit (L.power line.old)) (rows target.old) (rows target.new) (table (L.stations line.old)) (table (L.stations line.new)) result }
 {
     let mut sent = 0;
     for a in 1..32u32 {

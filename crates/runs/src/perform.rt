@@ -18,7 +18,7 @@ pub fn perform<L: Line>(
     orders: &mut Queue<Order>,
     answers: &mut Queue<Answer>,
 ) -> Outcome
-    ensures performed { Performed call.entry (meaning (power line.old) (stations line.old)) (card_of master.old orders.old answers.old) (came result) (meaning (power line.new) (stations line.new)) (card_of master.new orders.new answers.new) }
+    ensures performed { Performed call.entry (meaning (L.power line.old) (L.stations line.old)) (card_of master.old orders.old answers.old) (came result) (meaning (L.power line.new) (L.stations line.new)) (card_of master.new orders.new answers.new) }
     ensures order_slots { FreeWritten orders.old orders.new }
     ensures answer_slots { FreeWritten answers.old answers.new }
     ensures order_lender { orders.new.slots.ghost_name ≡ orders.old.slots.ghost_name }

@@ -33,9 +33,9 @@ fn lose(target: &mut Record, address: Address)
 /// Reads the I/O code at an address.
 fn seek_at<L: Line>(target: &mut Record, line: &mut L, address: Address) -> Reply
     ensures mode { target.new.mode ≡ target.old.mode }
-    ensures power { power line.new ≡ power line.old }
-    ensures reply { heard result ≡ deciding (power line.old) (seek address.value) (at (table (stations line.old)) address.value) }
-    ensures visited { Visited (search_visit target.old.mode (power line.old) (seek address.value) address.value) address.value (rows target.old) (rows target.new) (table (stations line.old)) (table (stations line.new)) 1 }
+    ensures power { L.power line.new ≡ L.power line.old }
+    ensures reply { heard result ≡ deciding (L.power line.old) (seek address.value) (at (table (L.stations line.old)) address.value) }
+    ensures visited { Visited (search_visit target.old.mode (L.power line.old) (seek address.value) address.value) address.value (rows target.old) (rows target.new) (table (L.stations line.old)) (table (L.stations line.new)) 1 }
 {
     let reply = line.carry(Request::ReadIo(address));
     match reply {
@@ -49,9 +49,9 @@ fn seek_at<L: Line>(target: &mut Record, line: &mut L, address: Address) -> Repl
 /// Reads the ID code at an address that gave its I/O code.
 fn name_at<L: Line>(target: &mut Record, line: &mut L, address: Address, io: Nibble) -> Reply
     ensures mode { target.new.mode ≡ target.old.mode }
-    ensures power { power line.new ≡ power line.old }
-    ensures reply { heard result ≡ deciding (power line.old) (name address.value io.value) (at (table (stations line.old)) address.value) }
-    ensures visited { Visited (search_visit target.old.mode (power line.old) (name address.value io.value) address.value) address.value (rows target.old) (rows target.new) (table (stations line.old)) (table (stations line.new)) 1 }
+    ensures power { L.power line.new ≡ L.power line.old }
+    ensures reply { heard result ≡ deciding (L.power line.old) (name address.value io.value) (at (table (L.stations line.old)) address.value) }
+    ensures visited { Visited (search_visit target.old.mode (L.power line.old) (name address.value io.value) address.value) address.value (rows target.old) (rows target.new) (table (L.stations line.old)) (table (L.stations line.new)) 1 }
 {
     let reply = line.carry(Request::ReadId(address));
     match reply {
@@ -69,9 +69,9 @@ fn name_at<L: Line>(target: &mut Record, line: &mut L, address: Address, io: Nib
 /// Enters an address that is still admissible; how many requests were sent.
 fn enter_at<L: Line>(target: &mut Record, line: &mut L, address: Address) -> u32
     ensures mode { target.new.mode ≡ target.old.mode }
-    ensures power { power line.new ≡ power line.old }
+    ensures power { L.power line.new ≡ L.power line.old }
     ensures few { result ≤ 1 }
-    ensures visited { Visited (search_visit target.old.mode (power line.old) (enter address.value) address.value) address.value (rows target.old) (rows target.new) (table (stations line.old)) (table (stations line.new)) result }
+    ensures visited { Visited (search_visit target.old.mode (L.power line.old) (enter address.value) address.value) address.value (rows target.old) (rows target.new) (table (L.stations line.old)) (table (L.stations line.new)) result }
 {
     if !is_admissible(target, address) {
         return 0;
@@ -91,9 +91,9 @@ fn next(target: &Record, step: Step, address: Address, reply: Reply) -> Step
 /// One step of the search: the next step, and how many requests were sent.
 pub fn search<L: Line>(target: &mut Record, line: &mut L, step: Step) -> (Step, u32)
     ensures mode { target.new.mode ≡ target.old.mode }
-    ensures power { power line.new ≡ power line.old }
+    ensures power { L.power line.new ≡ L.power line.old }
     ensures few { result.1 ≤ 1 }
-    ensures searched { Searched target.old.mode (power line.old) (stage step) (stage result.0) (rows target.old) (rows target.new) (table (stations line.old)) (table (stations line.new)) result.1 }
+    ensures searched { Searched target.old.mode (L.power line.old) (stage step) (stage result.0) (rows target.old) (rows target.new) (table (L.stations line.old)) (table (L.stations line.new)) result.1 }
 {
     match step {
         Step::Seek(from) => {

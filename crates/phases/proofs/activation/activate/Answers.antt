@@ -31,18 +31,18 @@ loop-a-preserved g c =
     let power = g.L.Line.power c.args.line.now in
     let i : ℕ = c.loop-a.a in
     let rs' = rows c.loop-a.target in
-    let rs'' = rows c.activate-at-sent.new.target in
+    let rs'' = rows c.activate_at-sent.new.target in
     let ps' = table (g.L.Line.stations c.loop-a.line) in
-    let ps'' = table (g.L.Line.stations c.activate-at-sent.new.line) in
-    let m = c.activate-at-sent.result in
+    let ps'' = table (g.L.Line.stations c.activate_at-sent.new.line) in
+    let m = c.activate_at-sent.result in
     let to : c.nth.result.value ≡ i = omega arith in
     let visited : Visited (activate_visit mode power i) i rs' rs'' ps' ps'' m =
     subst (λ (k : Mode). Visited (activate_visit k power i) i rs' rs'' ps' ps'' m) c.loop-a.invariant.0
     (subst (λ (p : Bool). Visited (activate_visit c.loop-a.target.mode p i) i rs' rs'' ps' ps'' m) c.loop-a.invariant.1
-    (subst (λ (n : ℕ). Visited (activate_visit c.loop-a.target.mode (g.L.Line.power c.loop-a.line) n) n rs' rs'' ps' ps'' m) to c.activate-at-sent.ensures.visited)) in (
-      c.activate-at-sent.ensures.mode ∙ c.loop-a.invariant.0,
-      c.activate-at-sent.ensures.power ∙ c.loop-a.invariant.1,
-      omega (arith, c.activate-at-sent.ensures.few, c.loop-a.invariant.2),
+    (subst (λ (n : ℕ). Visited (activate_visit c.loop-a.target.mode (g.L.Line.power c.loop-a.line) n) n rs' rs'' ps' ps'' m) to c.activate_at-sent.ensures.visited)) in (
+      c.activate_at-sent.ensures.mode ∙ c.loop-a.invariant.0,
+      c.activate_at-sent.ensures.power ∙ c.loop-a.invariant.1,
+      omega (arith, c.activate_at-sent.ensures.few, c.loop-a.invariant.2),
       goes_on (activate_visit mode power) (rows c.args.target.now) (table (g.L.Line.stations c.args.line.now)) i rs' rs'' ps' ps'' c.loop-a.sent m (omega arith) c.loop-a.invariant.3 visited,
     )
 

@@ -7,14 +7,14 @@ use Rattle.phases.specs.Activation.{admissible, activate_visit}
 use Rattle.phases.proofs.Visits.{unvisited}
 use Rattle.phases.proofs.activation.activate_at.Goals as goal
 
-pub returns-then-not-is-detected : goal.returns-then-not-is-detected
-returns-then-not-is-detected g c =
+pub returns-then-not-is_detected : goal.returns-then-not-is_detected
+returns-then-not-is_detected g c =
     let mode = c.args.target.now.mode in
     let a : ℕ = c.args.address.value in
     let rs = rows c.args.target.now in
     let ps = table (g.L.Line.stations c.args.line.now) in
     let to : c.low-at.result.value ≡ a = omega arith in
-    let missing : (row_at a rs).detected ≡ false = ap (λ (n : ℕ). (row_at n rs).detected) (sym to) ∙ sym c.if-not-is-detected.ensures in
+    let missing : (row_at a rs).detected ≡ false = ap (λ (n : ℕ). (row_at n rs).detected) (sym to) ∙ sym c.if-not-is_detected.ensures in
     record {
       mode = refl;
       power = refl;
@@ -22,14 +22,14 @@ returns-then-not-is-detected g c =
       visited = unvisited (activate_visit mode (g.L.Line.power c.args.line.now) a) a rs ps (cond-false _ _ _ (and_left _ (admissible mode a (row_at a rs)) missing));
     }
 
-pub returns-then-not-is-admissible : goal.returns-then-not-is-admissible
-returns-then-not-is-admissible g c =
+pub returns-then-not-is_admissible : goal.returns-then-not-is_admissible
+returns-then-not-is_admissible g c =
     let mode = c.args.target.now.mode in
     let a : ℕ = c.args.address.value in
     let rs = rows c.args.target.now in
     let ps = table (g.L.Line.stations c.args.line.now) in
     let to : c.low-at.result.value ≡ a = omega arith in
-    let barred : admissible mode a (row_at a rs) ≡ false = ap (λ (n : ℕ). admissible mode n (row_at n rs)) (sym to) ∙ sym c.if-not-is-admissible.ensures in
+    let barred : admissible mode a (row_at a rs) ≡ false = ap (λ (n : ℕ). admissible mode n (row_at n rs)) (sym to) ∙ sym c.if-not-is_admissible.ensures in
     record {
       mode = refl;
       power = refl;

@@ -22,17 +22,17 @@ loop-a-preserved g c =
     let power = g.L.Line.power c.args.line.now in
     let i : ℕ = c.loop-a.a in
     let rs' = rows c.loop-a.target in
-    let rs'' = rows c.detect-at-sent.new.target in
+    let rs'' = rows c.detect_at-sent.new.target in
     let ps' = table (g.L.Line.stations c.loop-a.line) in
-    let ps'' = table (g.L.Line.stations c.detect-at-sent.new.line) in
-    let m = c.detect-at-sent.result in
+    let ps'' = table (g.L.Line.stations c.detect_at-sent.new.line) in
+    let m = c.detect_at-sent.result in
     let to : c.low.result.value ≡ i = omega arith in
     let visited : Visited (detect_visit power) i rs' rs'' ps' ps'' m =
     subst (λ (p : Bool). Visited (detect_visit p) i rs' rs'' ps' ps'' m) c.loop-a.invariant.1
-    (subst (λ (n : ℕ). Visited (detect_visit (g.L.Line.power c.loop-a.line)) n rs' rs'' ps' ps'' m) to c.detect-at-sent.ensures.visited) in (
-      c.detect-at-sent.ensures.mode ∙ c.loop-a.invariant.0,
-      c.detect-at-sent.ensures.power ∙ c.loop-a.invariant.1,
-      omega (arith, c.detect-at-sent.ensures.few, c.loop-a.invariant.2),
+    (subst (λ (n : ℕ). Visited (detect_visit (g.L.Line.power c.loop-a.line)) n rs' rs'' ps' ps'' m) to c.detect_at-sent.ensures.visited) in (
+      c.detect_at-sent.ensures.mode ∙ c.loop-a.invariant.0,
+      c.detect_at-sent.ensures.power ∙ c.loop-a.invariant.1,
+      omega (arith, c.detect_at-sent.ensures.few, c.loop-a.invariant.2),
       goes_on (λ a. detect_visit power) (rows c.args.target.now) (table (g.L.Line.stations c.args.line.now)) i rs' rs'' ps' ps'' c.loop-a.sent m (omega arith) c.loop-a.invariant.3 visited,
     )
 

@@ -13,18 +13,18 @@ returns-in-Answer g c =
     let a = c.args.address.value in
     let io = c.in-Answer.io.value in
     let rs = rows c.args.target.now in
-    let rs' = rows c.name-at.new.target in
+    let rs' = rows c.name_at.new.target in
     let ps = table (g.L.Line.stations c.args.line.now) in
     let ps' = table (g.L.Line.stations c.carry.new.self) in
-    let ps'' = table (g.L.Line.stations c.name-at.new.line) in
+    let ps'' = table (g.L.Line.stations c.name_at.new.line) in
     record {
-      mode = c.name-at.ensures.mode;
-      power = c.name-at.ensures.power ∙ c.carry.ensures.power;
+      mode = c.name_at.ensures.mode;
+      power = c.name_at.ensures.power ∙ c.carry.ensures.power;
       few = omega arith;
       visited =
           detected (g.L.Line.power c.args.line.now) io a rs rs' ps ps' ps'' (omega (arith, c.args.address.ok, length-table (g.L.Line.stations c.args.line.now)))
           (sym c.carry.ensures.reply ∙ ap heard c.in-Answer.is) c.carry.ensures.after
-          (subst (λ (p : Bool). Visited (name_visit p io) a rs rs' ps' ps'' 1) c.carry.ensures.power c.name-at.ensures.visited);
+          (subst (λ (p : Bool). Visited (name_visit p io) a rs rs' ps' ps'' 1) c.carry.ensures.power c.name_at.ensures.visited);
     }
 
 pub returns-in-Silence : goal.returns-in-Silence

@@ -28,17 +28,17 @@ loop-a-preserved g c =
     let power = g.L.Line.power c.args.line.now in
     let i : ℕ = c.loop-a.a in
     let rs' = rows c.loop-a.target in
-    let rs'' = rows c.exchange-at-sent.new.target in
+    let rs'' = rows c.exchange_at-sent.new.target in
     let ps' = table (g.L.Line.stations c.loop-a.line) in
-    let ps'' = table (g.L.Line.stations c.exchange-at-sent.new.line) in
-    let m = c.exchange-at-sent.result in
+    let ps'' = table (g.L.Line.stations c.exchange_at-sent.new.line) in
+    let m = c.exchange_at-sent.result in
     let to : c.nth.result.value ≡ i = omega arith in
     let visited : Visited (exchange_visit power) i rs' rs'' ps' ps'' m =
     subst (λ (p : Bool). Visited (exchange_visit p) i rs' rs'' ps' ps'' m) c.loop-a.invariant.1
-    (subst (λ (n : ℕ). Visited (exchange_visit (g.L.Line.power c.loop-a.line)) n rs' rs'' ps' ps'' m) to c.exchange-at-sent.ensures.visited) in (
-      c.exchange-at-sent.ensures.mode ∙ c.loop-a.invariant.0,
-      c.exchange-at-sent.ensures.power ∙ c.loop-a.invariant.1,
-      omega (arith, c.exchange-at-sent.ensures.few, c.loop-a.invariant.2),
+    (subst (λ (n : ℕ). Visited (exchange_visit (g.L.Line.power c.loop-a.line)) n rs' rs'' ps' ps'' m) to c.exchange_at-sent.ensures.visited) in (
+      c.exchange_at-sent.ensures.mode ∙ c.loop-a.invariant.0,
+      c.exchange_at-sent.ensures.power ∙ c.loop-a.invariant.1,
+      omega (arith, c.exchange_at-sent.ensures.few, c.loop-a.invariant.2),
       goes_on (λ a. exchange_visit power) (rows c.args.target.now) (table (g.L.Line.stations c.args.line.now)) i rs' rs'' ps' ps'' c.loop-a.sent m (omega arith) c.loop-a.invariant.3 visited,
     )
 

@@ -11,9 +11,9 @@ loop-a-init c = (refl, changing_starts dropped (rows c.args.target.now) (rows_si
 pub loop-a-preserved : goal.loop-a-preserved
 loop-a-preserved c =
     let to : c.low.result.value ≡ c.loop-a.a = omega arith in (
-      c.forget-at.ensures.mode ∙ c.loop-a.invariant.0,
-      changing_goes_on dropped (rows c.args.target.now) c.loop-a.a c.low.result.value (rows c.loop-a.target) (rows c.forget-at.new.target) (omega arith) to
-          c.loop-a.invariant.1 c.forget-at.ensures.rows,
+      c.forget_at.ensures.mode ∙ c.loop-a.invariant.0,
+      changing_goes_on dropped (rows c.args.target.now) c.loop-a.a c.low.result.value (rows c.loop-a.target) (rows c.forget_at.new.target) (omega arith) to
+          c.loop-a.invariant.1 c.forget_at.ensures.rows,
     )
 
 pub returns : goal.returns

@@ -12,7 +12,7 @@ pub returns : goal.returns
 returns c =
     let q = sent c.args.request in
     let ws = c.args.words.now in
-    let good : good_image ws ≡ true = sym c.if-not-is-image.ensures.is in
+    let good : good_image ws ≡ true = sym c.if-not-is_image.ensures.is in
     let carried = subst (λ (l : List ℕ). Carried q l c.carry.new.self.words.now (heard c.carry.result)) c.over-rack.ensures.holds c.carry.ensures.carried in
     let image : c.carry.new.self.words.now ≡ image_of (powered_in ws) (line_after (powered_in ws) q (table (place_at ws))) =
     carried_image q ws c.carry.new.self.words.now (heard c.carry.result) good (target_below c.args.request) carried in

@@ -15,13 +15,13 @@ loop-edit-preserved c =
     let es : List Edit = c.args.edits.now in
     let mode : Mode = c.args.projection.now.target.now.mode in
     let inv = c.loop-edit.invariant in
-    let made = c.edit-through.ensures in
+    let made = c.edit_through.ensures in
     let inside : i < length es = c.loop-edit-test.true in (
       made.lender ∙ inv.0,
       made.former ∙ inv.1,
       made.mode ∙ inv.2,
       edited_more mode es i _ inside c.loop-edit.projection.target.now.mode inv.2 _ _ _ inv.3 made.rows,
-      accepted_more mode es i _ inside c.loop-edit.projection.target.now.mode inv.2 _ _ (outcome (λ u. u) c.edit-through.result) inv.4 made.result c.count-accepted.ensures.is,
+      accepted_more mode es i _ inside c.loop-edit.projection.target.now.mode inv.2 _ _ (outcome (λ u. u) c.edit_through.result) inv.4 made.result c.count-accepted.ensures.is,
       omega (arith, inv.5, c.count-accepted.ensures.few),
     )
 

@@ -14,17 +14,17 @@ returns-in-PlaceParameter g c =
     let orders = c.args.orders.now in
     let answers = c.args.answers.now in
     let line = meaning (g.L.Line.power c.args.line.now) (g.L.Line.stations c.args.line.now) in
-    let placed = c.place-parameter in
+    let placed = c.place_parameter in
     record {
       performed =
           placed_so c.args.call (parameter _ _) line (card_of c.args.master.now orders answers) (length (held orders)) (length (held answers))
           (outcome (λ u. u) placed.result) (map ordered (held placed.new.orders)) (room placed.new.orders) (came c.of.result)
           (ap (turn_of line) c.in-PlaceParameter.is) (sym (length-map (held orders) ordered)) (sym (length-map (held answers) told))
           placed.ensures.result placed.ensures.after placed.ensures.room c.of.ensures;
-      order-slots = placed.ensures.slots;
-      answer-slots = (refl, refl);
-      order-lender = placed.ensures.lender;
-      answer-lender = refl;
+      order_slots = placed.ensures.slots;
+      answer_slots = (refl, refl);
+      order_lender = placed.ensures.lender;
+      answer_lender = refl;
     }
 
 pub returns-in-PlaceReset : goal.returns-in-PlaceReset
@@ -32,17 +32,17 @@ returns-in-PlaceReset g c =
     let orders = c.args.orders.now in
     let answers = c.args.answers.now in
     let line = meaning (g.L.Line.power c.args.line.now) (g.L.Line.stations c.args.line.now) in
-    let placed = c.place-reset in
+    let placed = c.place_reset in
     record {
       performed =
           placed_so c.args.call (reset _) line (card_of c.args.master.now orders answers) (length (held orders)) (length (held answers))
           (outcome (λ u. u) placed.result) (map ordered (held placed.new.orders)) (room placed.new.orders) (came c.of-in-PlaceReset.result)
           (ap (turn_of line) c.in-PlaceReset.is) (sym (length-map (held orders) ordered)) (sym (length-map (held answers) told))
           placed.ensures.result placed.ensures.after placed.ensures.room c.of-in-PlaceReset.ensures;
-      order-slots = placed.ensures.slots;
-      answer-slots = (refl, refl);
-      order-lender = placed.ensures.lender;
-      answer-lender = refl;
+      order_slots = placed.ensures.slots;
+      answer_slots = (refl, refl);
+      order_lender = placed.ensures.lender;
+      answer_lender = refl;
     }
 
 pub returns-in-ReadLists : goal.returns-in-ReadLists
@@ -50,9 +50,9 @@ returns-in-ReadLists g c =
     let line = meaning (g.L.Line.power c.args.line.now) (g.L.Line.stations c.args.line.now) in
     record {
       performed =
-          read_so c.args.call line (card_of c.args.master.now c.args.orders.now c.args.answers.now) c.args.master.now c.read-lists.result (ap (turn_of line) c.in-ReadLists.is) refl c.read-lists.ensures;
-      order-slots = (refl, refl);
-      answer-slots = (refl, refl);
-      order-lender = refl;
-      answer-lender = refl;
+          read_so c.args.call line (card_of c.args.master.now c.args.orders.now c.args.answers.now) c.args.master.now c.read_lists.result (ap (turn_of line) c.in-ReadLists.is) refl c.read_lists.ensures;
+      order_slots = (refl, refl);
+      answer_slots = (refl, refl);
+      order_lender = refl;
+      answer_lender = refl;
     }

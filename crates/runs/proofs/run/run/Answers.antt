@@ -39,7 +39,7 @@ returns g c =
           whole_run g.P.Plant.alters c.args.script.now c.args.log.now c.loop-i.log c.args.plant.now c.loop-i.plant
           (meaning (power c.args.line.now) (stations c.args.line.now)) (meaning (power c.loop-i.line) (stations c.loop-i.line))
           (card_of c.loop-i.master c.loop-i.orders c.loop-i.answers) c.loop-i.i c.min-made.result
-          (room c.new-orders.result) (room c.new-answers.result) (length c.args.order-slots.now) (length c.args.answer-slots.now)
+          (room c.new-orders.result) (room c.new-answers.result) (length c.args.order_slots.now) (length c.args.answer_slots.now)
           all c.new-orders.ensures.room c.new-answers.ensures.room c.loop-i.invariant;
       rest = subst (λ (n : ℕ). drop n c.loop-i.log ≡ drop n c.args.log.now) all c.loop-i.invariant.rest;
     }

@@ -10,9 +10,9 @@ loop-k-preserved c =
     let bs = c.args.bytes.now in
     let ws = c.loop-k.words in
     let k = c.loop-k.k in (
-      subst (λ (w : ℕ). (j : ℕ) → j < k + 1 → get_or (set ws k w) j 0 ≡ word_at bs j) (sym c.word-at.ensures)
+      subst (λ (w : ℕ). (j : ℕ) → j < k + 1 → get_or (set ws k w) j 0 ≡ word_at bs j) (sym c.word_at.ensures)
           (fill_by_more (word_at bs) ws k 0 (omega (arith, c.loop-k.invariant.1)) c.loop-k.invariant.0),
-      length-set ws k c.word-at.result ∙ c.loop-k.invariant.1,
+      length-set ws k c.word_at.result ∙ c.loop-k.invariant.1,
     )
 
 pub returns : goal.returns

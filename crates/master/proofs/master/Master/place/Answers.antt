@@ -17,7 +17,7 @@ returns c =
     let answers = c.args.answers.now in
     let q = ordered c.args.order in
     let active : (row_at q.to rs).active ≡ true = sym c.if-not-serves.ensures in
-    let free : length (held orders) + length (held answers) < room answers = omega (arith, c.len.ensures.is, c.len-2.ensures.is, c.saturating-add.ensures, c.capacity.ensures) in
+    let free : length (held orders) + length (held answers) < room answers = omega (arith, c.len.ensures.is, c.len-2.ensures.is, c.saturating_add.ensures, c.capacity.ensures) in
     record {
       result =
           put_is_placed phase rs (length (held orders)) (room orders) (length (held answers)) (room answers) q (outcome (λ u. u) c.put.result)

@@ -19,9 +19,9 @@ returns c =
       active = λ a h. ap (λ (w : ℕ). has w a) las ∙ sym (ap (λ (x : Row). x.active) (row a h));
       projected = λ a h. ap (λ (w : ℕ). has w a) c.lists-lps.ensures.lps ∙ sym (ap (λ (x : Row). x.projected) (row a h));
       config_right = c.config_ok.ensures;
-      zero_detected = c.is-detected.ensures ∙ ap (λ (a : ℕ). (row_at a (rows r)).detected) c.low.ensures;
-      configuring = c.is-configuration.ensures ∙ ap in_configuration c.mode.ensures;
-      running = c.is-normal.ensures;
+      zero_detected = c.is_detected.ensures ∙ ap (λ (a : ℕ). (row_at a (rows r)).detected) c.low.ensures;
+      configuring = c.is_configuration.ensures ∙ ap in_configuration c.mode.ensures;
+      running = c.is_normal.ensures;
       power_failed = refl;
       offline_requested = refl;
     }

@@ -15,11 +15,11 @@ returns-in-Offline g c =
     record {
       became =
           in_phase c.args.phase Offline card line _ _ _ c.in-Offline.is
-          (offline_run card line c.is-powered.result (control_of c.stay_offline.new.self) c.is-powered.ensures c.stay_offline.ensures);
-      order-slots = refl;
-      answer-slots = (refl, refl);
-      order-lender = refl;
-      answer-lender = refl;
+          (offline_run card line c.is_powered.result (control_of c.stay_offline.new.self) c.is_powered.ensures c.stay_offline.ensures);
+      order_slots = refl;
+      answer_slots = (refl, refl);
+      order_lender = refl;
+      answer_lender = refl;
     }
 
 pub returns-in-Detection : goal.returns-in-Detection
@@ -31,10 +31,10 @@ returns-in-Detection g c =
           in_phase c.args.phase Detection card line _ _ _ c.in-Detection.is
           (visited_run card line (λ a. detect_visit line.power) Activation c.detect.new.target.mode (g.L.Line.power c.detect.new.line) (rows c.detect.new.target) (table (g.L.Line.stations c.detect.new.line)) c.detect.result
           c.detect.ensures.mode c.detect.ensures.power c.detect.ensures.visited);
-      order-slots = refl;
-      answer-slots = (refl, refl);
-      order-lender = refl;
-      answer-lender = refl;
+      order_slots = refl;
+      answer_slots = (refl, refl);
+      order_lender = refl;
+      answer_lender = refl;
     }
 
 pub returns-in-Activation : goal.returns-in-Activation
@@ -46,8 +46,8 @@ returns-in-Activation g c =
           in_phase c.args.phase Activation card line _ _ _ c.in-Activation.is
           (visited_run card line (activate_visit card.control.mode line.power) Normal c.activate.new.target.mode (g.L.Line.power c.activate.new.line) (rows c.activate.new.target) (table (g.L.Line.stations c.activate.new.line)) c.activate.result
           c.activate.ensures.mode c.activate.ensures.power c.activate.ensures.visited);
-      order-slots = refl;
-      answer-slots = (refl, refl);
-      order-lender = refl;
-      answer-lender = refl;
+      order_slots = refl;
+      answer_slots = (refl, refl);
+      order_lender = refl;
+      answer_lender = refl;
     }

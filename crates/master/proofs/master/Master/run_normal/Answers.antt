@@ -37,8 +37,8 @@ returns g c =
           exchanged.ensures.mode managed.ensures.mode searched.ensures.mode
           exchanged.ensures.power managed.ensures.power searched.ensures.power
           exchanged.ensures.visited managed.ensures.managed searched.ensures.searched;
-      order-slots = managed.ensures.order-slots;
-      answer-slots = managed.ensures.answer-slots;
-      order-lender = managed.ensures.order-lender;
-      answer-lender = managed.ensures.answer-lender;
+      order_slots = managed.ensures.order_slots;
+      answer_slots = managed.ensures.answer_slots;
+      order_lender = managed.ensures.order_lender;
+      answer_lender = managed.ensures.answer_lender;
     }

@@ -6,5 +6,5 @@ use Rattle.racks.proofs.bench.BenchRack.open.Goals as goal
 pub returns : goal.returns
 returns c =
     let ws = c.args.words.now in
-    let good : good_image ws ≡ true = sym c.is-image.ensures.is ∙ c.if-not-is-image.false in
-    (good, refl, c.stations-in.ensures, ap (image_of (powered_in ws)) c.stations-in.ensures ∙ image_back ws good)
+    let good : good_image ws ≡ true = sym c.is_image.ensures.is ∙ c.if-not-is_image.false in
+    (good, refl, c.stations_in.ensures, ap (image_of (powered_in ws)) c.stations_in.ensures ∙ image_back ws good)

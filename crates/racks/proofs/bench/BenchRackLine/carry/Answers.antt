@@ -7,12 +7,12 @@ use Rattle.racks.specs.Racks.{empty_station, station_at}
 use Rattle.racks.proofs.Stores.{carried, replied, unpowered}
 use Rattle.racks.proofs.bench.BenchRackLine.carry.Goals as goal
 
-pub returns-then-not-is-powered : goal.returns-then-not-is-powered
-returns-then-not-is-powered c =
+pub returns-then-not-is_powered : goal.returns-then-not-is_powered
+returns-then-not-is_powered c =
     record {
       power = refl;
-      after = rw (sym c.if-not-is-powered.ensures) (unpowered (sent c.args.request) (table (station_at c.args.self.now.stations)));
-      reply = rw (sym c.if-not-is-powered.ensures) refl;
+      after = rw (sym c.if-not-is_powered.ensures) (unpowered (sent c.args.request) (table (station_at c.args.self.now.stations)));
+      reply = rw (sym c.if-not-is_powered.ensures) refl;
     }
 
 pub returns : goal.returns
@@ -27,6 +27,6 @@ returns c =
     let read : x ≡ get_or ss b empty_station = get_or_read ss b x stored c.index-self-from.is empty_station in
     record {
       power = refl;
-      after = rw (sym c.if-not-is-powered.ensures) (carried place_of empty_station ss b x c.hear.new.self q to inside stored read (cc));
-      reply = rw (sym c.if-not-is-powered.ensures) ((cc) ∙ replied place_of empty_station ss b x q to inside read);
+      after = rw (sym c.if-not-is_powered.ensures) (carried place_of empty_station ss b x c.hear.new.self q to inside stored read (cc));
+      reply = rw (sym c.if-not-is_powered.ensures) ((cc) ∙ replied place_of empty_station ss b x q to inside read);
     }

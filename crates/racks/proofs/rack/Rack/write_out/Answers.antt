@@ -15,6 +15,6 @@ pub returns : goal.returns
 returns g c =
     let power = g.Self.Line.power c.args.self.now in
     let stations = g.Self.Line.stations c.args.self.now in
-    let word : c.power_word_lem.result ≡ power_word_lem power = c.power_word_lem.ensures ∙ ap power_word_lem c.is-powered.ensures in
+    let word : c.power_word.result ≡ power_word_lem power = c.power_word.ensures ∙ ap power_word_lem c.is_powered.ensures in
     let all : Said stations c.loop-a.words 32 = λ k h. c.loop-a.invariant k (omega arith) in
     rw word (written power stations c.args.words.now c.loop-a.words (omega arith) (omega arith) all)

@@ -26,5 +26,5 @@ pub returns : goal.returns
 returns c =
     let r = c.args.self.now in
     let sized = length-table (row_in r.lists.lds r.lists.las r.lps r.entries) in
-    let none : (row_at 0 (rows r)).detected ≡ false = ap (λ (n : ℕ). (row_at n (rows r)).detected) (sym c.low.ensures) ∙ sym c.if-is-detected.ensures in
+    let none : (row_at 0 (rows r)).detected ≡ false = ap (λ (n : ℕ). (row_at n (rows r)).detected) (sym c.low.ensures) ∙ sym c.if-is_detected.ensures in
     sym (and_from _ _ (not_from_false _ none) (sym c.loop-a.invariant ∙ passes_all agreeing (rows r) c.loop-a.a (omega arith)))

@@ -17,6 +17,6 @@ returns c =
     record {
       mode = refl;
       rows =
-          planned_at old.lists.lds old.lists.las old.lps c.set-member-self.result es i c.args.address.value e c.args.projected c.args.codes c.args.parameter
-          to c.set-member-self.ensures inside sized read;
+          planned_at old.lists.lds old.lists.las old.lps c.set_member-self.result es i c.args.address.value e c.args.projected c.args.codes c.args.parameter
+          to c.set_member-self.ensures inside sized read;
     }

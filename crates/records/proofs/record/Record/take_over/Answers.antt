@@ -15,15 +15,15 @@ pub loop-a-preserved : goal.loop-a-preserved
 loop-a-preserved c =
     let r = c.args.self.now in
     let to : c.low.result.value ≡ c.loop-a.a = omega arith in (
-      c.copy-detected.ensures.mode ∙ c.loop-a.invariant.0,
-      take_over_goes_on (row_in r.lists.lds r.lists.las r.lps r.entries) c.loop-a.a c.low.result.value (rows c.loop-a.self) (rows c.copy-detected.new.self)
-          (omega arith) (omega arith) to c.loop-a.invariant.1 c.copy-detected.ensures.rows,
+      c.copy_detected.ensures.mode ∙ c.loop-a.invariant.0,
+      take_over_goes_on (row_in r.lists.lds r.lists.las r.lps r.entries) c.loop-a.a c.low.result.value (rows c.loop-a.self) (rows c.copy_detected.new.self)
+          (omega arith) (omega arith) to c.loop-a.invariant.1 c.copy_detected.ensures.rows,
     )
 
 pub returns : goal.returns
 returns c =
     let r = c.args.self.now in
-    let configuring : r.mode ≡ Configuration = c.in-default.is in
+    let configuring : r.mode ≡ Configuration = c.in_default.is in
     record {
       mode = c.loop-a.invariant.0;
       result = sym (ap by_mode configuring);

@@ -5,37 +5,41 @@ use racks::rack::Rack;
 use racks::trial::{on_bench, on_image, under_repeater};
 use stations::bytes::image_from_bytes;
 use stations::image::{IMAGE_WORDS, POWER_UP, test_image};
+use std::fmt::Debug;
 use std::process::Abort;
 use std::test::*;
 use telegrams::request::Request;
 use values::address::Address;
 
 /// Every call that takes an image comes to the same number.
-fn check_image(rt: &impl Abort, words: &mut [u32], expected: u16) -> Result<(), Fail> {
+fn check_image<W: Debug + Drop>(rt: &impl Abort, what: W, words: &mut [u32], expected: u16) {
     let request = Request::ReadIo(Address::low(0));
-    assert_eq!(rt; number(test_image(words)), expected);
-    assert_eq!(rt; number(BenchRack::open(words)), expected);
-    assert_eq!(rt; number(ImageRack::open(words)), expected);
-    assert_eq!(rt; number(on_bench(words, request)), expected);
-    assert_eq!(rt; number(on_image(words, request)), expected);
-    assert_eq!(rt; number(under_repeater(words, request)), expected);
-    Ok(())
+    assert_eq!(rt; number(test_image(words)), expected, "{what:?}");
+    assert_eq!(rt; number(BenchRack::open(words)), expected, "{what:?}");
+    assert_eq!(rt; number(ImageRack::open(words)), expected, "{what:?}");
+    assert_eq!(rt; number(on_bench(words, request)), expected, "{what:?}");
+    assert_eq!(rt; number(on_image(words, request)), expected, "{what:?}");
+    assert_eq!(rt;
+        number(under_repeater(words, request)),
+        expected,
+        "{what:?}"
+    );
 }
 
 #[test]
-fn lengths(rt: HostRuntime) -> Result<(), Fail> {
-    check_image(&rt, &mut image(&[]), 0)?;
-    check_image(&rt, &mut [], 0x8313)?;
+fn lengths(rt: HostRuntime) {
+    check_image(&rt, "33 words", &mut image(&[]), 0);
+    check_image(&rt, "no words", &mut [], 0x8313);
     let mut short = [0; 32];
     short[31] = POWER_UP;
-    check_image(&rt, &mut short, 0x8313)?;
+    check_image(&rt, "32 words", &mut short, 0x8313);
     let mut long = [0; 34];
     long[32] = POWER_UP;
-    check_image(&rt, &mut long, 0x8313)
+    check_image(&rt, "34 words", &mut long, 0x8313);
 }
 
 #[test]
-fn station_and_power_words(rt: HostRuntime) -> Result<(), Fail> {
+fn station_and_power_words(rt: HostRuntime) {
     for (at, word, expected) in [
         (0, 0x4000_0000, 0),
         (31, 0x4FFF_FFFF, 0),
@@ -54,11 +58,8 @@ fn station_and_power_words(rt: HostRuntime) -> Result<(), Fail> {
         (32, 0x4000_0001, 0x8313),
         (32, 0xFFFF_FFFF, 0x8313),
     ] {
-        check_image(&rt, &mut image(&[(at, word)]), expected)
-            .note(at)
-            .note(word)?;
+        check_image(&rt, (at, word), &mut image(&[(at, word)]), expected);
     }
-    Ok(())
 }
 
 #[test]

@@ -1,4 +1,6 @@
 //! Tests of every returned number, at its edge and in its order, through the public calls on a rack.
+#![tactic(auto)]
+
 #[cfg(test)]
 mod cycles;
 #[cfg(test)]

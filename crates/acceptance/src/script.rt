@@ -162,9 +162,9 @@ fn nibble_or_number(res: Result<Nibble, Refusal>) -> u16 {
     }
 }
 
-fn same(came: u16, expected: u16) -> Result<u16, Fail> {
-    assert_eq!(came, expected);
-    Ok(came)
+fn same(rt: &impl Abort, came: u16, expected: u16, row: u32) -> u16 {
+    assert_eq!(rt; came, expected, "row {row}");
+    came
 }
 
 fn edit(target: &mut Record, edit: Edit) -> Result<(), Refusal> {
@@ -255,55 +255,61 @@ impl<'a> Session<'a> {
     }
 
     /// Makes the call of a row and checks what it came to; the number, 0 where it has none.
-    fn call(&mut self, row: Row) -> Result<u16, Fail> {
+    fn call(&mut self, rt: &impl Abort, row: Row, n: u32) -> Result<u16, Fail> {
         match row {
             Row::Parameter(address, value, expected) => {
                 let placed = self
                     .master
                     .place_parameter(&mut self.orders, &self.answers, address, value);
-                same(number(placed), expected)
+                Ok(same(rt, number(placed), expected, n))
             }
             Row::Reset(address, expected) => {
                 let placed = self
                     .master
                     .place_reset(&mut self.orders, &self.answers, address);
-                same(number(placed), expected)
+                Ok(same(rt, number(placed), expected, n))
             }
             Row::Collect(expected) => {
                 let came = ending(collect(&mut self.answers));
-                assert_eq!(came, expected);
+                assert_eq!(rt; came, expected, "row {n}");
                 match came {
                     Collected::Refused(number) => Ok(number),
                     _ => Ok(OK),
                 }
             }
-            Row::Outputs(address, outputs, expected) => same(
-                number(self.master.table.write_outputs(address, outputs)),
-                expected,
-            ),
-            Row::Inputs(address, expected) => same(
-                nibble_or_number(self.master.table.read_inputs(address)),
-                expected,
-            ),
-            Row::Mode(mode, expected) => same(number(self.master.table.set_mode(mode)), expected),
+            Row::Outputs(address, outputs, expected) => {
+                let written = self.master.table.write_outputs(address, outputs);
+                Ok(same(rt, number(written), expected, n))
+            }
+            Row::Inputs(address, expected) => {
+                let read = self.master.table.read_inputs(address);
+                Ok(same(rt, nibble_or_number(read), expected, n))
+            }
+            Row::Mode(mode, expected) => {
+                let set = self.master.table.set_mode(mode);
+                Ok(same(rt, number(set), expected, n))
+            }
             Row::Edit(change, expected) => {
-                same(number(edit(&mut self.master.table, change)), expected)
+                let edited = edit(&mut self.master.table, change);
+                Ok(same(rt, number(edited), expected, n))
             }
             Row::Through(change, expected) => {
-                same(
-                    number(edit_through(&mut self.master.table, change)),
-                    expected,
-                )
+                let edited = edit_through(&mut self.master.table, change);
+                Ok(same(rt, number(edited), expected, n))
             }
             Row::Cycle(letter, requests) => match self.cycle() {
                 Ok(came) => {
-                    assert_eq!(came, (letter, requests));
+                    assert_eq!(rt; came, (letter, requests), "row {n}");
                     Ok(OK)
                 }
                 Err(_) => Err(Fail::new("bad image")),
             },
             Row::Lists(lds, las, lps, flags) => {
-                assert_eq!(listed(self.master.read_lists()), [lds, las, lps, flags]);
+                assert_eq!(rt;
+                    listed(self.master.read_lists()),
+                    [lds, las, lps, flags],
+                    "row {n}"
+                );
                 Ok(OK)
             }
             Row::Offline(offline) => {
@@ -311,7 +317,7 @@ impl<'a> Session<'a> {
                 Ok(OK)
             }
             Row::Plug(at, word) => {
-                assert!(at < STATIONS);
+                assert!(rt; at < STATIONS, "row {n}");
                 self.words[at] = word;
                 Ok(OK)
             }
@@ -320,18 +326,18 @@ impl<'a> Session<'a> {
                 Ok(OK)
             }
             Row::Word(at, word) => {
-                assert!(at < STATIONS);
-                assert_eq!(self.words[at], word);
+                assert!(rt; at < STATIONS, "row {n}");
+                assert_eq!(rt; self.words[at], word, "row {n}");
                 Ok(OK)
             }
         }
     }
 
-    /// Follows a row, and sees that a refusal changes nothing.
-    fn follow(&mut self, row: Row) -> Result<(), Fail> {
+    /// Follows a row, the nth, and sees that a refusal changes nothing.
+    fn follow(&mut self, rt: &impl Abort, row: Row, n: u32) -> Result<(), Fail> {
         let before = self.state();
-        if self.call(row)? > 15 {
-            assert_eq!(self.state(), before);
+        if self.call(rt, row, n)? > 15 {
+            assert_eq!(rt; self.state(), before, "row {n}");
         }
         Ok(())
     }
@@ -359,11 +365,11 @@ pub(crate) fn follow(rt: &impl Abort, start: Start, rows: &[Row]) -> Result<(), 
     for _ in 0..start.cycles {
         let _ = session.cycle();
     }
-    session.follow(Row::Mode(start.mode, OK))?;
+    session.follow(rt, Row::Mode(start.mode, OK), 0)?;
     let mut count = 0u32;
     for row in rows {
         count = count.saturating_add(1);
-        session.follow(*row).note(format_args!("row {count}"))?;
+        session.follow(rt, *row, count)?;
     }
     Ok(())
 }

@@ -1,5 +1,7 @@
 //! Reads an image from standard input and lists the first four cycles of a new master on it: cycle, first letter of its phase, LDS and LAS
 //! after it, requests.
+#![tactic(auto)]
+
 ghost use Rattle.std.specs.Prelude.{◌≤◌, length, Ok, Err};
 
 use first_cycles::first_cycles::{CALLS, on_image};

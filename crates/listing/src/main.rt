@@ -1,4 +1,6 @@
 //! Reads an image from standard input and lists the modules that answer on it: address, I/O code, ID code.
+#![tactic(auto)]
+
 ghost use Rattle.std.specs.Prelude.{◌≤◌, length, Ok, Err};
 
 use lines::line::Line;

@@ -1,6 +1,6 @@
 -- Orders are answered in the order in which they came, and answers are collected in the order in which they were put. An order that waits
 -- behind k others is answered in the normal cycle behind k others, and in no other.
-use Rattle.std.proofs.Common.{◌≡◌, ℕ, zero, suc, ◌+◌, ◌<◌, ◌≤◌, Bool, true, false, cond, List, [], ◌∷◌, ◌++◌, map, length, get_or, sym, refl, ap, ◌∙◌, subst, arith}
+use Rattle.std.proofs.Common.{◌≡◌, ℕ, ◌+◌, ◌<◌, Bool, true, false, cond, List, [], ◌∷◌, ◌++◌, map, length, sym, refl, ap, ◌∙◌, subst, arith}
 use mathlib.Core.List.{tail-eq_of_cons-eq}
 use Rattle.std.proofs.lemmas.List.{append-nil, append_assoc, map-append, length-append, length-map}
 use Rattle.std.specs.List.{AllByRecursion as All}
@@ -11,7 +11,7 @@ use Rattle.orders.specs.Orders.{Told}
 use Rattle.master.specs.Placing.{is_normal}
 use Rattle.master.specs.Cycles.{Card, Meaning, new_card, beginning, exchange, running, cycle}
 use Rattle.promise.specs.Successions.{Placement, order_from, Call, placing, Turn, cycling, calling, placing_outcome, called, after}
-use Rattle.promise.specs.Answering.{order_in, accepted_by_call, accepted_by, put_by, answered_by, collected_by_call, collected_by, FirstCome, Numbered, is_normal_cycle, numbered_cycles, PutsNumber, AnswersIt, InTurn, AnsweredInTurn}
+use Rattle.promise.specs.Answering.{order_in, accepted_by_call, accepted_by, put_by, answered_by, collected_by_call, collected_by, FirstCome, Numbered, is_normal_cycle, numbered_cycles, AnswersIt, InTurn, AnsweredInTurn}
 use Rattle.promise.proofs.Queues.{Room, Puts, answer_to, cycle_puts, idle_puts, normal_puts, call_serves, room_cycle, room_call, room_after}
 
 abbrev orders_of : List Told → List Sent

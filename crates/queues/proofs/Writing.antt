@@ -1,5 +1,5 @@
 -- A put writes no place but the one behind the newest element.
-use Rattle.std.proofs.Common.{◌≡◌, ℕ, ◌+◌, Bool, true, false, cond, List, set, sym, refl, ap, subst, arith}
+use Rattle.std.proofs.Common.{◌≡◌, ℕ, ◌+◌, Bool, true, false, cond, List, set, sym, refl, subst, arith}
 use Rattle.std.proofs.lemmas.List.{take-set, drop-set-lt}
 use Rattle.queues.specs.Fifo.{KeptBut}
 

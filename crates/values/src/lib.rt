@@ -1,4 +1,6 @@
 //! Numbers that cannot leave their range, and the refusals of the whole product with their numbers.
+#![tactic(auto)]
+
 pub mod address;
 pub mod module_address;
 pub mod nibble;

@@ -1,4 +1,6 @@
 //! Prints what the code makes of the worked examples, and how many words of 14 bits are taken and refused.
+#![tactic(auto)]
+
 use lines::line::Line;
 use lines::repeater::Repeater;
 use racks::bench::BenchRack;

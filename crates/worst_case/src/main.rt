@@ -1,5 +1,7 @@
 //! Runs the worst case of the waiting bound, and prints each cycle: a module is plugged in so that it waits as long as any can until it is
 //! exchanged.
+#![tactic(auto)]
+
 ghost use Rattle.std.specs.Prelude.{◌≡◌, ◌%◌, true, replicate, Ok, Err};
 ghost use Rattle.stations.specs.Stations.{place_of, occupied};
 ghost use Rattle.stations.specs.Images.{image_of};

@@ -1,7 +1,6 @@
 use Rattle.std.proofs.Common.{◌≡◌, ℕ, true, List, length, refl, ap, ◌∙◌, arith, rules}
 use Rattle.lists.specs.Members.{has, joined}
 use Rattle.lists.proofs.Laws.{has_joined_same, has_joined_other}
-use Rattle.records.specs.Records.{rows}
 use Rattle.records.specs.declared.entry.Entry.{Entry}
 use Rattle.records.proofs.Written.{relisted}
 use Rattle.records.proofs.record.Record.activate.Goals as goal

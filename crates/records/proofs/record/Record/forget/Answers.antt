@@ -1,7 +1,6 @@
 use Rattle.std.proofs.Common.{◌≡◌, ℕ, false, List, length, refl, ap, ◌∙◌, arith, rules}
 use Rattle.lists.specs.Members.{has, removed}
 use Rattle.lists.proofs.Laws.{has_removed_same, has_removed_other}
-use Rattle.records.specs.Records.{rows}
 use Rattle.records.specs.declared.entry.Entry.{Entry}
 use Rattle.records.proofs.Written.{relisted}
 use Rattle.records.proofs.record.Record.forget.Goals as goal

@@ -3,7 +3,7 @@
 use Rattle.std.proofs.Common.{◌≡◌, ℕ, ◌+◌, ◌<◌, Bool, true, false, cond, List, [], ◌∷◌, ◌++◌, map, length, sym, refl, ap, ◌∙◌, subst, arith}
 use mathlib.Core.List.{tail-eq_of_cons-eq}
 use Rattle.std.proofs.lemmas.List.{append-nil, append_assoc, map-append, length-append, length-map}
-use Rattle.std.specs.List.{AllByRecursion as All}
+use Rattle.std.specs.List.{AllByRecursion}
 use Rattle.std.proofs.lemmas.Bool.{both_ways, false≢true}
 use Rattle.values.specs.Refusals.{Outcome, gives, refuses_for, accepts}
 use Rattle.telegrams.specs.Requests.{Sent}
@@ -58,7 +58,7 @@ first_in_first_out order_room answer_room p =
 
 module _ (k n : ℕ) (o : Sent) where
   abbrev Turns : ℕ → ℕ → Card → List Turn → Type 0
-  Turns i m c q = All (InTurn k n o) (numbered_cycles i m c q)
+  Turns i m c q = AllByRecursion (InTurn k n o) (numbered_cycles i m c q)
 
   -- after its answer was put, no cycle answers the order
   past : (q : List Turn) (i m : ℕ) (c : Card) → k < i → n < m → Turns i m c q

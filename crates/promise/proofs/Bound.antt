@@ -1,6 +1,6 @@
 -- The waiting bound: the other phases, then all cycles of a succession.
 use Rattle.std.proofs.Common.{◌≡◌, ℕ, zero, suc, ◌<◌, ◌≤◌, Bool, true, false, cond, not, ◌&&◌, ◌||◌, ◌⊎◌, List, [], ◌∷◌, drop, sym, refl, ap, ◌∙◌, subst, ap₂, subst₂, inl, inr, arith}
-use Rattle.std.specs.List.{AllByRecursion as All}
+use Rattle.std.specs.List.{AllByRecursion}
 use Rattle.std.proofs.ByRecursion.{All-drop}
 use Rattle.std.proofs.lemmas.Bool.{and_from, false≢true}
 use Rattle.telegrams.specs.Requests.{read_io, read_id, write_parameter}
@@ -230,7 +230,7 @@ meets_left b d (f ∷ ds) x e left = left x e
 -- All cycles of a succession, with n left
 module _ (b : ℕ) (one : 1 ≤ b) (hb : b < 32) where
   bounded : (q : List Turn) (n : ℕ) (c : Card) (x : State) → Kept b c → Within b n (view b c.control) (codes_of x) x.enabled →
-      All (Stays b) (cycles c q) → Meets b x (cycles c q) → LeftInPlace b (cycles c q) → All (Exchanged b) (drop n (cycles c q))
+      AllByRecursion (Stays b) (cycles c q) → Meets b x (cycles c q) → LeftInPlace b (cycles c q) → AllByRecursion (Exchanged b) (drop n (cycles c q))
   bounded [] n c x kept within stays meets left = All-drop (Exchanged b) n [] tt
   bounded (cycling line ∷ ts) zero c x kept within stays meets left =
       let d : Met = record { card = c; line = line } in
@@ -249,7 +249,7 @@ module _ (b : ℕ) (one : 1 ≤ b) (hb : b < 32) where
       (subst (λ (v : View). Within b n v (codes_of x) x.enabled) (sym (keeps_call b hb k c)) within) stays meets left
 
   -- the module that the first cycle meets, or any where there is none
-  first_module : (ds : List Met) → All (Stays b) ds → (x : State) × Meets b x ds
+  first_module : (ds : List Met) → AllByRecursion (Stays b) ds → (x : State) × Meets b x ds
   first_module [] stays = (record { io = 0; id = 0; inputs = 0; outputs = 0; parameter = 0; direction = 0; enabled = false; disturbance = 0 }, tt)
   first_module (d ∷ ds) stays = (stays.0.0, (stays.0.0.inputs, stays.0.1.there))
 

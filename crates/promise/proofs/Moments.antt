@@ -1,6 +1,6 @@
 -- What management and the search show of an address: a visit there, or nothing.
 use Rattle.std.proofs.Common.{◌≡◌, ℕ, ◌<◌, true, false, cond, ltb, List, [], ◌∷◌, length, ap, ◌∙◌, subst, ⊎_elim}
-use Rattle.std.specs.List.{AllByRecursion as All}
+use Rattle.std.specs.List.{AllByRecursion}
 use Rattle.std.proofs.lemmas.Bool.{cases_eq}
 use Rattle.telegrams.specs.Requests.{Asking, Sent, data_exchange, write_parameter, read_io, read_id, resetting}
 use Rattle.stations.specs.Stations.{Place}
@@ -25,7 +25,7 @@ Orderable read_id = ⊥
 Orderable resetting = Unit {0}
 
 abbrev pub Orderly : List Sent → Type 0
-Orderly os = All (λ (o : Sent). Orderable o.asking) os
+Orderly os = AllByRecursion (λ (o : Sent). Orderable o.asking) os
 
 -- One address alone is visited
 module _ (b : ℕ) (h : b < 32) (s : Scene) (m : Moment) (see : Sees b s m) where

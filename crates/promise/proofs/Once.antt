@@ -2,7 +2,7 @@
 -- in data exchange, at most one in management and at most one in the search.
 use Rattle.std.proofs.Common.{◌≡◌, ℕ, zero, suc, ◌+◌, ◌<◌, ◌≤◌, Bool, true, false, cond, eqb, ltb, List, [], ◌∷◌, ◌++◌, length, sym, refl, ap, ◌∙◌, subst, ⊎_elim, arith}
 use lib.ListN.{get_or-eq_default}
-use Rattle.std.specs.List.{AllByRecursion as All}
+use Rattle.std.specs.List.{AllByRecursion}
 use Rattle.std.proofs.lemmas.List.{append-nil, length-append}
 use Rattle.std.proofs.lemmas.Bool.{cases_eq, cases_lt, cond-true, cond-false, cond_both, eq-eqb, ne_eqb}
 use Rattle.telegrams.specs.Requests.{Asking, Sent, data_exchange}
@@ -124,11 +124,11 @@ module _ (c : ℕ) (visit : Row → Place → Visit) (s : Scene) (quiet : Quiet 
             ∙ append-nil (exchanged_with b s.sent);
       }
 
-little_manage : (s : Scene) → All QuietOrder s.card.orders → Little s (manage s)
+little_manage : (s : Scene) → AllByRecursion QuietOrder s.card.orders → Little s (manage s)
 unfolding manage
 little_manage s quiet = by s.card.orders quiet
   where
-    by : (os : List Sent) → All QuietOrder os → Little s (manage_by os s)
+    by : (os : List Sent) → AllByRecursion QuietOrder os → Little s (manage_by os s)
     by [] q = little_same s
     by (o ∷ rest) q =
         let z = little_only o.to (manage_visit s.line.power o.asking) s (quiet_manage s.line.power o q.0) in

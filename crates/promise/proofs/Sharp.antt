@@ -1,7 +1,7 @@
 -- A module that waits as long as any can. The search has named its address with another module's I/O code when it is plugged in, so that
 -- cycle 1 finds mixed codes, and cycle 2 does not enter it, the mode being protected then. The search comes back after all other addresses.
 use Rattle.std.proofs.Common.{◌≡◌, ℕ, zero, suc, ◌+◌, ◌-◌, ◌<◌, ◌≤◌, Bool, true, false, not, ◌&&◌, eqb, ltb, List, [], ◌∷◌, ◌++◌, length, take, set, replicate, refl, ap, ◌∙◌, subst, arith}
-use Rattle.std.specs.List.{AllByRecursion as All, range_with_len}
+use Rattle.std.specs.List.{AllByRecursion, range_with_len}
 use Rattle.std.proofs.lemmas.Bool.{cond-false, cond_both, and_parts, not-true, eqb-true, ltb-true, false≢true}
 use Rattle.std.proofs.lemmas.List.FromFn.{get_or-range_with_len}
 use Rattle.values.specs.Tables.{table}
@@ -207,13 +207,13 @@ module _ (b : ℕ) (h : b < 32) where
   abbrev Waits : ℕ → Card → Meaning → Type 0
   Waits n c line = waits b n c line ≡ true
 
-  stay_all : (n : ℕ) (c : Card) (line : Meaning) → Waits n c line → All (Stays b) (cycles c (staying n c line))
+  stay_all : (n : ℕ) (c : Card) (line : Meaning) → Waits n c line → AllByRecursion (Stays b) (cycles c (staying n c line))
   unfolding staying waits
   stay_all zero c line e = tt
   stay_all (suc n) c line e =
       (stays n (met c line) (and_parts _ _ e).0, stay_all n (cycle c line).card (cycle c line).line (and_parts _ _ e).1)
 
-  pass_all : (n : ℕ) (c : Card) (line : Meaning) → Waits (suc n) c line → All (PassesBy b) (take n (cycles c (staying (suc n) c line)))
+  pass_all : (n : ℕ) (c : Card) (line : Meaning) → Waits (suc n) c line → AllByRecursion (PassesBy b) (take n (cycles c (staying (suc n) c line)))
   unfolding staying waits
   pass_all zero c line e = tt
   pass_all (suc n) c line e =

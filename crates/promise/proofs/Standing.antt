@@ -1,6 +1,6 @@
 -- What holds of a card all along a succession: there are 32 rows, address 0 is not active, and no order that waits asks for data exchange.
 use Rattle.std.proofs.Common.{◌≡◌, ℕ, Bool, true, false, cond, ltb, List, [], ◌∷◌, ◌++◌, map, length, set, sym, refl, ap, ◌∙◌, subst, ⊎_elim, arith}
-use Rattle.std.specs.List.{AllByRecursion as All}
+use Rattle.std.specs.List.{AllByRecursion}
 use Rattle.std.proofs.ByRecursion.{All-append}
 use Rattle.std.proofs.lemmas.List.{length-set, get_or-set_same, get_or-set_other}
 use Rattle.std.proofs.lemmas.Bool.{cases_eq, and_right, cond-true, cond-false, eq-eqb, ne_eqb}
@@ -179,31 +179,31 @@ stand_call (projecting_all es) c z = stand_edits es c.control.rows z
 abbrev pub QuietOrder : Sent → Type 0
 QuietOrder o = exchanges (o.asking ∷ []) ≡ []
 
-all_behind : {X : Type 0} (P : X → Type 0) (xs ys : List X) → All P (xs ++ ys) → All P ys
+all_behind : {X : Type 0} (P : X → Type 0) (xs ys : List X) → AllByRecursion P (xs ++ ys) → AllByRecursion P ys
 all_behind P [] ys h = h
 all_behind P (x ∷ xs) ys h = all_behind P xs ys h.1
 
-quiet_placement : (w : Placement) (o : Outcome (Unit {0})) → All QuietOrder (order_in (order_from w) o)
+quiet_placement : (w : Placement) (o : Outcome (Unit {0})) → AllByRecursion QuietOrder (order_in (order_from w) o)
 quiet_placement w (refuses_for n m) = refused (order_from w)
   where
-    refused : (x : Outcome Sent) → All QuietOrder (order_in x (refuses_for n m))
+    refused : (x : Outcome Sent) → AllByRecursion QuietOrder (order_in x (refuses_for n m))
     refused (gives q) = tt
     refused (refuses_for k j) = tt
 quiet_placement (parameter a n) (gives u) =
     elim (is_module_address a) as
-    (λ t. All QuietOrder (order_in (cond t (cond (ltb n 16) (gives (record { to = a; asking = write_parameter n })) (refuses 0x8310)) (refuses 0x8381)) (gives u))) [
+    (λ t. AllByRecursion QuietOrder (order_in (cond t (cond (ltb n 16) (gives (record { to = a; asking = write_parameter n })) (refuses 0x8310)) (refuses 0x8381)) (gives u))) [
       | true ↦
           elim (ltb n 16) as
-          (λ t. All QuietOrder (order_in (cond t (gives (record { to = a; asking = write_parameter n })) (refuses 0x8310)) (gives u)))
+          (λ t. AllByRecursion QuietOrder (order_in (cond t (gives (record { to = a; asking = write_parameter n })) (refuses 0x8310)) (gives u)))
           [ true ↦ (refl, tt) | false ↦ tt ]
       | false ↦ tt
     ]
 quiet_placement (reset a) (gives u) =
     elim (is_module_address a) as
-    (λ t. All QuietOrder (order_in (cond t (gives (record { to = a; asking = resetting })) (refuses 0x8381)) (gives u)))
+    (λ t. AllByRecursion QuietOrder (order_in (cond t (gives (record { to = a; asking = resetting })) (refuses 0x8381)) (gives u)))
     [ true ↦ (refl, tt) | false ↦ tt ]
 
-quiet_accepted : (k : Call) (c : Card) → All QuietOrder (accepted_by_call k c)
+quiet_accepted : (k : Call) (c : Card) → AllByRecursion QuietOrder (accepted_by_call k c)
 quiet_accepted (placing w) c = quiet_placement w _
 quiet_accepted collecting c = tt
 quiet_accepted (writing_outputs a n) c = tt
@@ -218,17 +218,17 @@ quiet_accepted (projecting_all es) c = tt
 
 pub record Standing (c : Card) : Type 0 where
   pub rows : StandingRows c.control.rows
-  pub asks : All QuietOrder c.orders
+  pub asks : AllByRecursion QuietOrder c.orders
 
 standing_after : (p : List Turn) (c : Card) → Standing c → Standing (later p c)
 standing_after [] c z = z
 standing_after (cycling line ∷ p) c z =
-    let quiet = subst (All QuietOrder) (cycle_puts c line).orders_are z.asks in
+    let quiet = subst (AllByRecursion QuietOrder) (cycle_puts c line).orders_are z.asks in
     standing_after p (cycle c line).card
     (record { rows = stand_cycle c line z.rows; asks = all_behind QuietOrder (map (λ (x : Told). x.order) (put_by c line)) (cycle c line).card.orders quiet })
 standing_after (calling k ∷ p) c z =
     let quiet = All-append QuietOrder c.orders (accepted_by_call k c) z.asks (quiet_accepted k c) in
-    standing_after p (called k c) (record { rows = stand_call k c z.rows; asks = subst (All QuietOrder) (sym (call_serves k c).orders_are) quiet })
+    standing_after p (called k c) (record { rows = stand_call k c z.rows; asks = subst (AllByRecursion QuietOrder) (sym (call_serves k c).orders_are) quiet })
 
 pub stands : (order_room answer_room : ℕ) (p : List Turn) → Standing (later p (new_card order_room answer_room))
 unfolding new_control

@@ -2,7 +2,7 @@
 -- An order is known by its number: how many were accepted before it. The answers that cycles put are numbered too, and FirstCome says that
 -- the answers put are those of the first orders accepted: so answer number n is that of order number n.
 use Rattle.std.specs.Prelude.{◌≡◌, ℕ, ◌+◌, ◌<◌, ◌≤◌, Bool, true, cond, List, [], ◌∷◌, ◌++◌, map, length, drop}
-use Rattle.std.specs.List.{AllByRecursion as All}
+use Rattle.std.specs.List.{AllByRecursion}
 use Rattle.values.specs.Refusals.{Outcome, gives, refuses_for, accepts}
 use Rattle.telegrams.specs.Requests.{Sent}
 use Rattle.orders.specs.Orders.{Told}
@@ -106,4 +106,4 @@ pub record InTurn (k n : ℕ) (o : Sent) (d : Numbered) : Type 0 where
 abbrev pub AnsweredInTurn : Card → List Turn → Placement → List Turn → Type 0
 AnsweredInTurn new p w q =
     (o : Sent) → order_from w ≡ gives o → accepts (placing_outcome (order_from w) (after p new)) ≡ true →
-    All (InTurn (length (after p new).orders) (length (accepted_by new p)) o) (numbered_cycles 0 (length (answered_by new p)) (called (placing w) (after p new)) q)
+    AllByRecursion (InTurn (length (after p new).orders) (length (accepted_by new p)) o) (numbered_cycles 0 (length (answered_by new p)) (called (placing w) (after p new)) q)

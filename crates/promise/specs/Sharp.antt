@@ -2,7 +2,7 @@
 -- exchanges with it. So no smaller number would do. The successions are closed and the checker computes them, so they also show that the
 -- hypotheses of the bound can be met.
 use Rattle.std.specs.Prelude.{◌≡◌, ℕ, ◌+◌, ◌<◌, ◌≤◌, List, [], length, take, drop}
-use Rattle.std.specs.List.{AllByRecursion as All}
+use Rattle.std.specs.List.{AllByRecursion}
 use Rattle.master.specs.Cycles.{new_card}
 use Rattle.promise.specs.Successions.{Turn, after, Met, cycles}
 use Rattle.promise.specs.Waiting.{done, sent_to, exchanges, StaysPlugged, Exchanged, WaitsAtMost}
@@ -15,8 +15,8 @@ PassesBy b d = exchanges (sent_to b (done d).sent) ≡ []
 pub record WaitsLongest (n b : ℕ) (p q : List Turn) : Type 0 where
   pub plugged : StaysPlugged b (cycles (after p (new_card 1 1)) q)
   pub long : length (cycles (after p (new_card 1 1)) q) ≡ n + 1
-  pub not_yet : All (PassesBy b) (take n (cycles (after p (new_card 1 1)) q))
-  pub at_last : All (Exchanged b) (drop n (cycles (after p (new_card 1 1)) q))
+  pub not_yet : AllByRecursion (PassesBy b) (take n (cycles (after p (new_card 1 1)) q))
+  pub at_last : AllByRecursion (Exchanged b) (drop n (cycles (after p (new_card 1 1)) q))
 
 -- n cycles are enough in every succession, and at every address there is a succession in which it takes as many
 pub record LeastBound (n : ℕ) : Type 0 where

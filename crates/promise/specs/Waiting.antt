@@ -2,7 +2,7 @@
 -- Plugging lies anywhere in a succession: what came before has led to card c, q comes after it, and cycle 1 is the first of q. Every
 -- hypothesis speaks of the cycles of q alone, each as it began.
 use Rattle.std.specs.Prelude.{◌≡◌, ℕ, ◌+◌, ◌<◌, ◌≤◌, true, false, cond, List, [], ◌∷◌, drop, ◌==◌}
-use Rattle.std.specs.List.{AllByRecursion as All}
+use Rattle.std.specs.List.{AllByRecursion}
 use Rattle.telegrams.specs.Requests.{Asking, Sent, data_exchange, write_parameter, read_io, read_id, resetting}
 use Rattle.stations.specs.Stations.{State, occupied, port_bits}
 use Rattle.lines.specs.Lines.{at}
@@ -91,12 +91,12 @@ pub record Exchanged (b : ℕ) (d : Met) : Type 0 where
 
 -- what is asked of the cycles after plugging
 pub record StaysPlugged (b : ℕ) (ds : List Met) : Type 0 where
-  pub admitted : All (Stays b) ds
+  pub admitted : AllByRecursion (Stays b) ds
   pub left : LeftInPlace b ds
 
 -- From card c on, as plugging finds it, through q: after n cycles the module is exchanged in every one
 abbrev pub WaitsAtMost : ℕ → Card → List Turn → Type 0
-WaitsAtMost n c q = (b : ℕ) → 1 ≤ b → b < 32 → StaysPlugged b (cycles c q) → All (Exchanged b) (drop n (cycles c q))
+WaitsAtMost n c q = (b : ℕ) → 1 ≤ b → b < 32 → StaysPlugged b (cycles c q) → AllByRecursion (Exchanged b) (drop n (cycles c q))
 
 abbrev pub WaitingBound : Card → List Turn → Type 0
 WaitingBound c q = WaitsAtMost 97 c q

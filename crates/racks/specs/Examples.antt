@@ -1,6 +1,6 @@
 -- The worked examples, one to a row: what the definitions make of it, and what was worked out by hand.
 use Rattle.std.specs.Prelude.{◌≡◌, ℕ, true, List, [], ◌∷◌}
-use Rattle.std.specs.List.{AllByRecursion as All}
+use Rattle.std.specs.List.{AllByRecursion}
 use Rattle.telegrams.specs.Requests.{Asking, Sent, Heard, data_exchange, write_parameter, read_io, read_id, nibble, silence, disturbed}
 use Rattle.telegrams.specs.Words.{request_word, reply_word, request_cause}
 use Rattle.stations.specs.Stations.{Place, vacant, occupied, after, reply}
@@ -54,4 +54,4 @@ worked_examples_lem =
     ∷ []
 
 abbrev pub WorkedExamples : Type 0
-WorkedExamples = All (λ e. e.made ≡ e.expected) worked_examples_lem
+WorkedExamples = AllByRecursion (λ e. e.made ≡ e.expected) worked_examples_lem

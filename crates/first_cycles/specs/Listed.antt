@@ -1,4 +1,4 @@
--- What the listing shows: four cycles of a new master on the line that an image says, each followed by a reading of the lists. Nothing alters
+-- What a list of the first cycles shows: four cycles of a new master on the line that an image says, each followed by a reading of the lists. Nothing alters
 -- the line in between.
 use Rattle.std.specs.Prelude.{ℕ, cond, List, [], ◌∷◌}
 use Rattle.values.specs.Refusals.{Outcome, gives, refuses, refuses_for}

@@ -1,7 +1,7 @@
 ghost use Rattle.std.specs.Prelude.{◌≡◌, map};
 ghost use Rattle.values.specs.Refusals.{outcome};
 ghost use Rattle.master.specs.Cycles.{meaning, new_card};
-ghost use Rattle.runs.specs.Runs.{came, undisturbed};
+ghost use Rattle.runs.specs.Runs.{came, undisturbed, line_undisturbed};
 ghost use Rattle.first_cycles.specs.Listed.{script, listed};
 
 use lines::line::Line;
@@ -29,7 +29,8 @@ const SCRIPT: [Call<'static>; CALLS] = [
 
 /// Four cycles of a new master, each followed by a reading of the lists.
 pub fn on_line<L: Line>(line: &mut L) -> [Outcome; CALLS]
-    ensures { map came result ≡ undisturbed script (meaning (L.power line.old) (L.stations line.old)) (new_card 0 0) }
+    ensures came_to { map came result ≡ undisturbed script (meaning (L.power line.old) (L.stations line.old)) (new_card 0 0) }
+    ensures left { meaning (L.power line.new) (L.stations line.new) ≡ line_undisturbed script (meaning (L.power line.old) (L.stations line.old)) (new_card 0 0) }
 {
     let mut log = [Outcome::Done; CALLS];
     // No order is placed, so the queues need no places.

@@ -1,4 +1,4 @@
-//! The first cycles of a new master on the line that an image says, for the listing program.
+//! The first cycles of a new master on the line that an image says, for the program that lists them.
 #![tactic(auto)]
 
 pub mod first_cycles;

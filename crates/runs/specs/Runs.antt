@@ -158,6 +158,11 @@ abbrev pub undisturbed : List Call → Meaning → Card → List Came
 undisturbed [] w c = []
 undisturbed (x ∷ xs) w c = comes_to (turn_of w x) c ∷ undisturbed xs (line_left w (turn_of w x) c) (turned (turn_of w x) c)
 
+-- and how they leave it
+abbrev pub line_undisturbed : List Call → Meaning → Card → Meaning
+line_undisturbed [] w c = w
+line_undisturbed (x ∷ xs) w c = line_undisturbed xs (line_left w (turn_of w x) c) (turned (turn_of w x) c)
+
 -- What a run of a script from new says: which succession it was, that the plant, the line and the card went through it call by call, and that
 -- the promise holds of that succession
 pub record Run {P : Type 0} (alters : P → Meaning → Meaning → P → Type 0) (order_room answer_room : ℕ) (script : List Call) (log : List Came) (h : P) (w : Meaning) (h' : P) (w' : Meaning) : Type 0 where

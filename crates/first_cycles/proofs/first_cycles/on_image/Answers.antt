@@ -10,4 +10,4 @@ returns-in-Ok c =
     let opened = c.in-Ok.ensures.opened in
     let met = c.in-Ok.rack.words.now in
     listed_so c.args.bytes.now c.in_ok-words.words (map came c.on_line.result) (powered_in met) (table (place_at met))
-    c.in_ok-words.ensures opened.0 opened.1 opened.2 c.on_line.ensures
+    c.in_ok-words.ensures opened.0 opened.1 opened.2 c.on_line.ensures.came_to

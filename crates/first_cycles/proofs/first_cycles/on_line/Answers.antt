@@ -1,7 +1,7 @@
 use Rattle.std.proofs.Common.{◌≡◌, ℕ, List, map, take, sym, ap, ◌∙◌, arith}
 use Rattle.std.proofs.lemmas.List.{take_all}
 use Rattle.master.specs.Cycles.{Meaning, meaning, new_card}
-use Rattle.runs.specs.Runs.{came, undisturbed}
+use Rattle.runs.specs.Runs.{came, undisturbed, line_undisturbed}
 use Rattle.runs.specs.declared.call.Outcome.{Outcome}
 use Rattle.runs.proofs.Idling.{idle_run}
 use Rattle.first_cycles.specs.Listed.{script}
@@ -13,6 +13,10 @@ returns g c =
     let log : List Outcome = c.run.new.log in
     let n : ℕ = c.run.result in
     let made : n ≡ 8 = c.run.ensures.made in
-    let told : map came (take n log) ≡ undisturbed (take n script) w (new_card 0 0) = idle_run c.run.ensures.ran.ran in
+    let idle = idle_run c.run.ensures.ran.ran in
+    let told : map came (take n log) ≡ undisturbed (take n script) w (new_card 0 0) = idle.0 in
     let all : take n log ≡ log = take_all n log (omega (arith, c.run.auto.log)) in
-    ap (map came) (sym all) ∙ told ∙ ap (λ (m : ℕ). undisturbed (take m script) w (new_card 0 0)) made
+    record {
+      came_to = ap (map came) (sym all) ∙ told ∙ ap (λ (m : ℕ). undisturbed (take m script) w (new_card 0 0)) made;
+      left = idle.1 ∙ ap (λ (m : ℕ). line_undisturbed (take m script) w (new_card 0 0)) made;
+    }

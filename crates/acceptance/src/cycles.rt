@@ -2,7 +2,7 @@ use crate::script::*;
 use lines::line::Line;
 use lines::repeater::Repeater;
 use master::master::Master;
-use queues::queue::Queue;
+use orders::pair::Queues;
 use racks::bench::BenchRack;
 use racks::image_rack::ImageRack;
 use std::process::Abort;
@@ -11,15 +11,14 @@ use std::test::*;
 /// The first four cycles on a line with one module, at address 3.
 fn check_first_cycles<L: Line>(rt: &impl Abort, line: &mut L) -> Result<(), Fail> {
     let mut master = Master::new();
-    let mut orders = Queue::new(&mut []);
-    let mut answers = Queue::new(&mut []);
+    let mut queues = Queues::over(&mut [], &mut []);
     for (letter, requests, lds, las) in [
         ('O', 0, 0, 0),
         ('D', 33, 8, 0),
         ('A', 1, 8, 8),
         ('N', 2, 8, 8),
     ] {
-        let report = master.cycle(line, &mut orders, &mut answers);
+        let report = master.cycle(line, &mut queues);
         assert_eq!(rt; reported(report), (letter, requests));
         let listing = master.read_lists();
         assert_eq!(rt; (listing.lds, listing.las), (lds, las));

@@ -8,6 +8,8 @@ mod images;
 #[cfg(test)]
 mod plant;
 #[cfg(test)]
+mod projections;
+#[cfg(test)]
 mod queue;
 #[cfg(test)]
 mod refusals;

@@ -1,8 +1,8 @@
 use crate::script::*;
-use orders::order::Done;
 use racks::bench::BenchRack;
+use records::edit::Edit;
 use records::record::Mode;
-use runs::call::{Call, Edit, Outcome};
+use runs::call::{Call, Given, Outcome};
 use runs::plant::Plant;
 use runs::run::run;
 use std::test::*;
@@ -60,22 +60,22 @@ fn calls(edits: &[Edit]) -> [Call<'_>; 18] {
 /// An outcome as a number: the number that the controller is given, or requests, nibble, LDS or edits.
 fn shown(outcome: Outcome) -> u64 {
     match outcome {
-        Outcome::Done => 0,
-        Outcome::Refused(refusal) => u64::from(refusal.number()),
-        Outcome::Ran(report) => u64::from(report.requests),
-        Outcome::Collected(answer) => match answer.done {
-            Done::Answered(nibble) => u64::from(nibble.get()),
-            _ => u64::from(answer.done.number()),
+        Ok(Given::Nothing) => 0,
+        Ok(Given::Ran(report)) => u64::from(report.requests),
+        Ok(Given::Collected(answer)) => match answer.result {
+            Ok(nibble) => u64::from(nibble.get()),
+            Err(unanswered) => u64::from(unanswered.number()),
         },
-        Outcome::Inputs(nibble) => u64::from(nibble.get()),
-        Outcome::Lists(listing) => u64::from(listing.lds),
-        Outcome::Projected(accepted) => accepted as u64,
+        Ok(Given::Inputs(nibble)) => u64::from(nibble.get()),
+        Ok(Given::Lists(listing)) => u64::from(listing.lds),
+        Ok(Given::Projected(accepted)) => accepted as u64,
+        Err(refusal) => u64::from(refusal.number()),
     }
 }
 
 #[test]
 fn script_with_plant(rt: HostRuntime) -> Result<(), Fail> {
-    let mut log = [Outcome::Done; CALLS];
+    let mut log = [Ok(Given::Nothing); CALLS];
     let Ok(mut rack) = BenchRack::open(&one_module().words) else {
         return Err(Fail::new("good image refused"));
     };
@@ -88,11 +88,11 @@ fn script_with_plant(rt: HostRuntime) -> Result<(), Fail> {
         &mut log,
     );
     assert_eq!(rt; made, CALLS);
-    let expected = [
+    let expected: [u64; CALLS] = [
         0, 33, 0, 0x8384, 1, 1, 0, 3, 5, 0x8310, 9, 0, 3, 0x8383, 0x8312, 8, 0,
     ];
-    for i in 0..CALLS {
-        assert_eq!(rt; shown(log[i]), expected[i], "{}", i);
+    for (i, (outcome, expected)) in log.iter().zip(expected.iter()).enumerate() {
+        assert_eq!(rt; shown(*outcome), *expected, "{}", i);
     }
     Ok(())
 }

@@ -1,6 +1,6 @@
 use crate::script::*;
+use records::edit::Edit;
 use records::record::Mode;
-use runs::call::Edit;
 use std::test::*;
 
 fn project(address: u32, io: u32, id: u32, parameter: u32) -> Edit {

@@ -1,14 +1,16 @@
 //! Scripts of calls on a new master on an image rack, each call with what it is to come to.
 use master::cycle::Report;
-use master::master::{Listing, Master, Phase, collect};
-use orders::order::{Answer, Done, Order};
-use queues::queue::Queue;
+use master::master::{Listing, Master, Phase};
+use orders::order::{Answer, Order, Unanswered};
+use orders::pair::Queues;
 use racks::image_rack::ImageRack;
+use records::edit::Edit;
 use records::entry::Entry;
 use records::projection::Projection;
-use records::record::{ADDRESSES, Mode, Record};
-use runs::call::Edit;
+use records::record::Mode;
+use records::rows::ADDRESSES;
 use stations::image::{IMAGE_WORDS, STATIONS, power_word};
+use std::array;
 use std::process::Abort;
 use std::test::*;
 use values::address::Address;
@@ -137,11 +139,13 @@ pub(crate) fn reported(report: Report) -> (char, u32) {
 
 fn ending(res: Result<Answer, Refusal>) -> Collected {
     match res {
-        Ok(answer) => match answer.done {
-            Done::Answered(nibble) => Collected::Nibble(nibble.get()),
-            Done::NotActive => Collected::NotActive(answer.done.number()),
-            Done::Silent => Collected::Silent(answer.done.number()),
-            Done::Disturbed => Collected::Disturbed(answer.done.number()),
+        Ok(answer) => match answer.result {
+            Ok(nibble) => Collected::Nibble(nibble.get()),
+            Err(unanswered) => match unanswered {
+                Unanswered::NotActive => Collected::NotActive(unanswered.number()),
+                Unanswered::Silent => Collected::Silent(unanswered.number()),
+                Unanswered::Disturbed => Collected::Disturbed(unanswered.number()),
+            },
         },
         Err(refusal) => Collected::Refused(refusal.number()),
     }
@@ -167,33 +171,6 @@ fn same(rt: &impl Abort, came: u16, expected: u16, row: u32) -> u16 {
     came
 }
 
-fn edit(target: &mut Record, edit: Edit) -> Result<(), Refusal> {
-    match edit {
-        Edit::Project {
-            address,
-            io,
-            id,
-            parameter,
-        } => target.project(address, io, id, parameter),
-        Edit::Unproject(address) => target.unproject(address),
-        Edit::TakeOver => target.take_over(),
-    }
-}
-
-fn edit_through(target: &mut Record, edit: Edit) -> Result<(), Refusal> {
-    let mut projection = Projection::open(target);
-    match edit {
-        Edit::Project {
-            address,
-            io,
-            id,
-            parameter,
-        } => projection.project(address, io, id, parameter),
-        Edit::Unproject(address) => projection.unproject(address),
-        Edit::TakeOver => projection.take_over(),
-    }
-}
-
 /// All that a call may change.
 #[derive(Clone, Copy, PartialEq, Debug)]
 struct State {
@@ -217,7 +194,7 @@ fn packed(entry: Entry) -> (u32, u8) {
         entry.idi,
         entry.odi,
     ] {
-        word = word << 4 | u32::from(nibble.get());
+        word = word << 4 | u32::from(nibble);
     }
     (word, entry.misses)
 }
@@ -227,31 +204,25 @@ fn packed(entry: Entry) -> (u32, u8) {
 struct Session<'a> {
     words: [u32; IMAGE_WORDS],
     master: Master,
-    orders: Queue<'a, Order>,
-    answers: Queue<'a, Answer>,
+    queues: Queues<'a>,
 }
 
 impl<'a> Session<'a> {
     fn state(&self) -> State {
-        let mut entries = [(0, 0); ADDRESSES];
-        for a in 0..ADDRESSES {
-            entries[a] = packed(self.master.table.entry(Address::low(a as u32)));
-        }
         State {
             lists: listed(self.master.read_lists()),
-            waiting: self.orders.len(),
-            uncollected: self.answers.len(),
-            entries,
+            waiting: self.queues.waiting(),
+            uncollected: self.queues.uncollected(),
+            entries: array::from_fn(|a| packed(
+                self.master.table.rows.entry(Address::low(a as u32)),
+            )),
             words: self.words,
         }
     }
 
     fn cycle(&mut self) -> Result<(char, u32), Refusal> {
         let mut rack = ImageRack::open(&mut self.words)?;
-        Ok(reported(
-            self.master
-                .cycle(&mut rack, &mut self.orders, &mut self.answers),
-        ))
+        Ok(reported(self.master.cycle(&mut rack, &mut self.queues)))
     }
 
     /// Makes the call of a row and checks what it came to; the number, 0 where it has none.
@@ -260,17 +231,15 @@ impl<'a> Session<'a> {
             Row::Parameter(address, value, expected) => {
                 let placed = self
                     .master
-                    .place_parameter(&mut self.orders, &self.answers, address, value);
+                    .place_parameter(&mut self.queues, address, value);
                 Ok(same(rt, number(placed), expected, n))
             }
             Row::Reset(address, expected) => {
-                let placed = self
-                    .master
-                    .place_reset(&mut self.orders, &self.answers, address);
+                let placed = self.master.place_reset(&mut self.queues, address);
                 Ok(same(rt, number(placed), expected, n))
             }
             Row::Collect(expected) => {
-                let came = ending(collect(&mut self.answers));
+                let came = ending(self.queues.collect());
                 assert_eq!(rt; came, expected, "row {n}");
                 match came {
                     Collected::Refused(number) => Ok(number),
@@ -290,11 +259,11 @@ impl<'a> Session<'a> {
                 Ok(same(rt, number(set), expected, n))
             }
             Row::Edit(change, expected) => {
-                let edited = edit(&mut self.master.table, change);
+                let edited = self.master.table.edit(change);
                 Ok(same(rt, number(edited), expected, n))
             }
             Row::Through(change, expected) => {
-                let edited = edit_through(&mut self.master.table, change);
+                let edited = Projection::open(&mut self.master.table).edit(change);
                 Ok(same(rt, number(edited), expected, n))
             }
             Row::Cycle(letter, requests) => match self.cycle() {
@@ -347,7 +316,7 @@ impl<'a> Session<'a> {
 pub(crate) fn any_answer() -> Answer {
     Answer {
         order: Order::Reset(ModuleAddress::nth(0)),
-        done: Done::NotActive,
+        result: Err(Unanswered::NotActive),
     }
 }
 
@@ -359,17 +328,17 @@ pub(crate) fn follow(rt: &impl Abort, start: Start, rows: &[Row]) -> Result<(), 
     let mut session = Session {
         words: start.words,
         master: Master::new(),
-        orders: Queue::new(&mut order_slots[0..start.order_room]),
-        answers: Queue::new(&mut answer_slots[0..start.answer_room]),
+        queues: Queues::over(
+            &mut order_slots[0..start.order_room],
+            &mut answer_slots[0..start.answer_room],
+        ),
     };
     for _ in 0..start.cycles {
         let _ = session.cycle();
     }
     session.follow(rt, Row::Mode(start.mode, OK), 0)?;
-    let mut count = 0u32;
-    for row in rows {
-        count = count.saturating_add(1);
-        session.follow(rt, *row, count)?;
+    for (n, row) in (1..).zip(rows) {
+        session.follow(rt, *row, n)?;
     }
     Ok(())
 }

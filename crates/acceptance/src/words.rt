@@ -8,7 +8,10 @@ use values::refusal::Refusal;
 fn numbers<T: Drop>(res: Result<T, Refusal>) -> (u16, u8) {
     match res {
         Ok(_) => (0, 0),
-        Err(refusal) => (refusal.number(), refusal.cause()),
+        Err(refusal) => (
+            refusal.number(),
+            refusal.cause().map_or(0, |cause| cause.number()),
+        ),
     }
 }
 

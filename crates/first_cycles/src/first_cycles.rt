@@ -7,7 +7,7 @@ ghost use Rattle.first_cycles.specs.Listed.{script, listed};
 use lines::line::Line;
 use orders::order::{Answer, Order};
 use racks::image_rack::ImageRack;
-use runs::call::{Call, Outcome};
+use runs::call::{Call, Given, Outcome};
 use runs::plant::Idle;
 use runs::run::run;
 use stations::bytes::image_from_bytes;
@@ -32,7 +32,7 @@ pub fn on_line<L: Line>(line: &mut L) -> [Outcome; CALLS]
     ensures came_to { map came result ≡ undisturbed script (meaning (L.power line.old) (L.stations line.old)) (new_card 0 0) }
     ensures left { meaning (L.power line.new) (L.stations line.new) ≡ line_undisturbed script (meaning (L.power line.old) (L.stations line.old)) (new_card 0 0) }
 {
-    let mut log = [Outcome::Done; CALLS];
+    let mut log = [Ok(Given::Nothing); CALLS];
     // No order is placed, so the queues need no places.
     let mut orders: [Order; 0] = [];
     let mut answers: [Answer; 0] = [];
@@ -52,8 +52,6 @@ pub fn on_image(bytes: &[u8]) -> Result<[Outcome; CALLS], Refusal>
     ensures { outcome (map came) result ≡ listed bytes.now }
 {
     let mut words = image_from_bytes(bytes)?;
-    match ImageRack::open(&mut words) {
-        Ok(mut rack) => Ok(on_line(&mut rack)),
-        Err(refusal) => Err(refusal),
-    }
+    let mut rack = ImageRack::open(&mut words)?;
+    Ok(on_line(&mut rack))
 }

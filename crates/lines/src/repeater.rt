@@ -37,8 +37,7 @@ impl<L: Line> Repeater<L> {
     {
         match first {
             Reply::Disturbed => self.below.carry(request),
-            Reply::Answer(_) => first,
-            Reply::Silence => first,
+            Reply::Answer(_) | Reply::Silence => first,
         }
     }
 }

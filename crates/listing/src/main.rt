@@ -1,8 +1,6 @@
 //! Reads an image from standard input and lists the modules that answer on it: address, I/O code, ID code.
 #![tactic(auto)]
 
-ghost use Rattle.std.specs.Prelude.{◌≤◌, length, Ok, Err};
-
 use lines::line::Line;
 use racks::image_rack::ImageRack;
 use stations::bytes::{IMAGE_BYTES, image_from_bytes};
@@ -10,25 +8,6 @@ use std::io;
 use std::io::Read;
 use telegrams::request::{Reply, Request};
 use values::address::Address;
-use values::refusal::Refusal;
-
-/// Reads until the buffer is full or the input ends; how many bytes came.
-fn fill(input: &mut impl Read, buffer: &mut [u8]) -> io::Result<usize>
-    ensures { elim result [ Ok count ↦ count ≤ length buffer.old | Err _ ↦ Unit {0} ] }
-{
-    let mut count = 0;
-    for _ in 0..=buffer.len() {
-        if count == buffer.len() {
-            break;
-        }
-        let got = input.read(&mut buffer[count..])?;
-        if got == 0 {
-            break;
-        }
-        count += got;
-    }
-    Ok(count)
-}
 
 /// The I/O code and the ID code of the module at an address, where one answers.
 fn codes(line: &mut impl Line, address: Address) -> Option<(u8, u8)> {
@@ -50,21 +29,18 @@ fn list(rt: &impl Print, line: &mut impl Line) -> io::Result<()> {
     Ok(())
 }
 
-fn refuse(rt: &impl Print, refusal: Refusal) -> io::Result<()> {
-    let number = refusal.number();
-    println!(rt; "{number:04X}")
-}
-
 fn main(rt: HostRuntime) -> io::Result<()> {
     // One byte more than an image has, so that a longer input shows.
-    let mut buffer = [0u8; IMAGE_BYTES + 1];
-    let count = fill(&mut rt.stdin(), &mut buffer)?;
-    let mut words = match image_from_bytes(&buffer[0..count]) {
+    let mut bytes = Vec::new(rt.alloc());
+    rt.stdin()
+        .take(IMAGE_BYTES as u64 + 1)
+        .read_to_end(&mut bytes)?;
+    let mut words = match image_from_bytes(&bytes) {
         Ok(words) => words,
-        Err(refusal) => return refuse(&rt, refusal),
+        Err(refusal) => return println!(rt; "{refusal}"),
     };
     match ImageRack::open(&mut words) {
         Ok(mut rack) => list(&rt, &mut rack),
-        Err(refusal) => refuse(&rt, refusal),
+        Err(refusal) => println!(rt; "{refusal}"),
     }
 }

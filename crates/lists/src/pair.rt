@@ -51,7 +51,7 @@ impl Lists {
         ensures lds { self.new.lds ≡ joined self.old.lds address.value }
         ensures las { self.new.las ≡ joined self.old.las address.value }
     {
-        let to = Address::low(u32::from(address.get()));
+        let to = Address::from(address);
         *self = Lists {
             lds: with(self.lds, to),
             las: with(self.las, to),

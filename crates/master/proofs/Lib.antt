@@ -1,3 +1,2 @@
-pub mod Placing
 pub mod Visiting
 pub mod Cycled

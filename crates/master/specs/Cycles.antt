@@ -2,13 +2,12 @@
 -- A cycle runs in one of four phases. Where the offline phase is requested or power is down it runs in the offline phase, whatever came
 -- before. Every part of a cycle is made of visits: exchange, detection and activation visit each address, management and search visit only
 -- one. A reader compares `run` and the parts that it names with docs/CYCLE.md.
-use Rattle.std.specs.Prelude.{◌≡◌, ℕ, Bool, false, cond, not, ◌||◌, List, [], ◌∷◌, ◌++◌, map, length, ◌==◌, nat_lt}
+use Rattle.std.specs.Prelude.{◌≡◌, ℕ, Bool, false, cond, not, ◌||◌, List, [], ◌∷◌, ◌++◌, length, ◌==◌, nat_lt}
 use Rattle.values.specs.Tables.{table}
 use Rattle.telegrams.specs.Requests.{Sent}
 use Rattle.stations.specs.Stations.{Place}
 use Rattle.lines.specs.Lines.{at}
-use Rattle.queues.specs.Fifo.{held, room}
-use Rattle.queues.specs.declared.queue.Queue.{Queue}
+use Rattle.queues.specs.Fifo.{room}
 use Rattle.records.specs.Rows.{Row, row_at, new_rows}
 use Rattle.records.specs.Records.{rows}
 use Rattle.records.specs.declared.record.Mode.{Mode}
@@ -17,10 +16,10 @@ use Rattle.phases.specs.Visits.{Visit, left_alone, sent_below}
 use Rattle.phases.specs.Exchange.{dropped, exchange_visit}
 use Rattle.phases.specs.Detection.{detect_visit}
 use Rattle.phases.specs.Activation.{activate_visit}
-use Rattle.orders.specs.Orders.{ordered, Ending, Told, told}
+use Rattle.orders.specs.Orders.{Ending, Told}
 use Rattle.orders.specs.Management.{manage_visit, manage_ending}
-use Rattle.orders.specs.declared.order.Answer.{Answer}
-use Rattle.orders.specs.declared.order.Order.{Order}
+use Rattle.orders.specs.Queues.{waiting, uncollected}
+use Rattle.orders.specs.declared.pair.Queues.{Queues}
 use Rattle.search.specs.Steps.{Stage, seek, stage}
 use Rattle.search.specs.Searches.{search_visit, taken_by, next_step}
 use Rattle.master.specs.declared.master.Master.{Master}
@@ -59,12 +58,12 @@ control_of m =
       power_fail = m.power_fail;
       phase = m.phase;
       step = stage m.step;
-      rows = rows m.table;
+      rows = rows m.table.rows;
     }
 
-abbrev pub card_of : Master → Queue Order → Queue Answer → Card
-card_of m os xs =
-    record { control = control_of m; orders = map ordered (held os); answers = map told (held xs); order_room = room os; answer_room = room xs }
+abbrev pub card_of : Master → Queues → Card
+card_of m q =
+    record { control = control_of m; orders = waiting q; answers = uncollected q; order_room = room q.orders; answer_room = room q.answers }
 
 abbrev pub meaning : Bool → (ℕ → Place) → Meaning
 meaning power stations = record { power = power; places = table stations }

@@ -9,11 +9,11 @@ use Rattle.master.specs.declared.master.Master.{Master}
 use Rattle.master.specs.declared.master.Listing.{Listing}
 
 pub record Listed (m : Master) (r : Listing) : Type 0 where
-  pub detected : (a : ℕ) → a < 32 → has r.lds a ≡ (row_at a (rows m.table)).detected
-  pub active : (a : ℕ) → a < 32 → has r.las a ≡ (row_at a (rows m.table)).active
-  pub projected : (a : ℕ) → a < 32 → has r.lps a ≡ (row_at a (rows m.table)).projected
-  pub config_right : r.config_ok ≡ config_ok (rows m.table)
-  pub zero_detected : r.address_zero ≡ (row_at 0 (rows m.table)).detected
+  pub detected : (a : ℕ) → a < 32 → has r.lds a ≡ (row_at a (rows m.table.rows)).detected
+  pub active : (a : ℕ) → a < 32 → has r.las a ≡ (row_at a (rows m.table.rows)).active
+  pub projected : (a : ℕ) → a < 32 → has r.lps a ≡ (row_at a (rows m.table.rows)).projected
+  pub config_right : r.config_ok ≡ config_ok (rows m.table.rows)
+  pub zero_detected : r.address_zero ≡ (row_at 0 (rows m.table.rows)).detected
   pub configuring : r.configuration_active ≡ in_configuration m.table.mode
   pub running : r.normal_operation_active ≡ is_normal m.phase
   pub power_failed : r.power_fail ≡ m.power_fail

@@ -1,9 +1,15 @@
 -- Placing an order: when it is refused, and what the queue holds afterwards.
 -- The refusals come in the order of the product's table: a bad address, a bad value, a wrong phase, an inactive address, no room.
-use Rattle.std.specs.Prelude.{◌≡◌, ℕ, ◌+◌, Bool, true, false, cond, ◌&&◌, List, [], ◌∷◌, ◌++◌, nat_lt}
-use Rattle.values.specs.Refusals.{Outcome, gives, refuses, refuses_for}
+use Rattle.std.specs.Prelude.{◌≡◌, ℕ, Bool, true, false, cond, List, length, Result}
+use Rattle.values.specs.declared.refusal.Refusal.{Refusal}
+use Rattle.values.specs.Refusals.{Outcome, gives, refuses, refuses_for, outcome}
 use Rattle.telegrams.specs.Requests.{Sent}
+use Rattle.queues.specs.Fifo.{held, room, UnchangedIfRefused}
 use Rattle.records.specs.Rows.{Row, row_at}
+use Rattle.records.specs.Records.{rows}
+use Rattle.orders.specs.Queues.{waiting, room_outcome, orders_after, OnlyPut}
+use Rattle.orders.specs.declared.pair.Queues.{Queues}
+use Rattle.master.specs.declared.master.Master.{Master}
 use Rattle.master.specs.declared.master.Phase.{Phase}
 use Rattle.master.specs.declared.master.Phase.TheVariants.{Offline, Detection, Activation, Normal}
 
@@ -16,19 +22,23 @@ is_normal Normal = true
 -- placing an order, or what making it came to: in which phase, with which rows, how many orders wait in how many places, and how many
 -- answers are uncollected in how many places
 abbrev pub place_outcome : Phase → List Row → ℕ → ℕ → ℕ → ℕ → Outcome Sent → Outcome (Unit {0})
-place_outcome phase rs waiting order_room uncollected answer_room (refuses_for n c) = refuses_for n c
-place_outcome phase rs waiting order_room uncollected answer_room (gives q) =
+place_outcome phase rs n order_room k answer_room (refuses_for e c) = refuses_for e c
+place_outcome phase rs n order_room k answer_room (gives q) =
     cond (is_normal phase)
     (cond (row_at q.to rs).active
-    (cond (nat_lt waiting order_room && nat_lt (waiting + uncollected) answer_room) (gives tt) (refuses 0x8311))
+    (room_outcome n order_room k answer_room)
     (refuses 0x8382))
     (refuses 0x8384)
 
-abbrev pub orders_after : Outcome (Unit {0}) → Sent → List Sent → List Sent
-orders_after (gives u) q waiting = waiting ++ q ∷ []
-orders_after (refuses_for n c) q waiting = waiting
-
--- what the order queue holds after a placing that came to o
+-- the orders that wait before and after a placing that came to o
 abbrev pub Placed : Outcome Sent → Outcome (Unit {0}) → List Sent → List Sent → Type 0
 Placed (refuses_for n c) o before after = after ≡ before
 Placed (gives q) o before after = after ≡ orders_after o q before
+
+-- a master placed what making an order came to: what it came to, and the queues before and afterwards
+pub record PlacedBy (m : Master) (q : Outcome Sent) (before : Queues) (r : Result (Unit {0}) Refusal) (after : Queues) : Type 0 where
+  pub came_to : outcome (λ u. u) r ≡ place_outcome m.phase (rows m.table.rows) (length (held before.orders)) (room before.orders) (length (held before.answers)) (room before.answers) q
+  pub waits : Placed q (outcome (λ u. u) r) (waiting before) (waiting after)
+  pub refused : UnchangedIfRefused r before after
+  pub orders : OnlyPut before.orders after.orders
+  pub answers : after.answers ≡ before.answers

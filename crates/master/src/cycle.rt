@@ -1,22 +1,21 @@
 ghost use Rattle.std.specs.Prelude.{◌≡◌, not, ◌||◌, if◌then◌else◌};
-ghost use Rattle.queues.specs.Fifo.{FreeWritten};
+ghost use Rattle.orders.specs.Queues.{Served};
 ghost use Rattle.master.specs.Cycles.{control_of, card_of, meaning, beginning, run, running, kept_offline, Became, Cycled};
 
 use super::master::{Master, Phase};
 use lines::line::Line;
 use orders::management::manage;
-use orders::order::{Answer, Order};
+use orders::pair::Queues;
 use phases::activation::activate;
 use phases::detection::detect;
 use phases::exchange::exchange;
 use phases::offline::clear;
-use queues::queue::Queue;
 use search::searching::search;
 use search::step::Step;
 use values::address::Address;
 
 /// What a cycle reports: the phase that it ran in, and how many requests it sent.
-#[derive(Clone, Copy)]
+#[derive(Clone, Copy, PartialEq, Eq)]
 pub struct Report {
     pub phase: Phase,
     pub requests: u32,
@@ -45,7 +44,7 @@ impl Master {
     fn stay_offline(&mut self, powered: bool)
         ensures { control_of self.new ≡ kept_offline powered (control_of self.old) }
     {
-        clear(&mut self.table);
+        clear(&mut self.table.rows);
         self.power_fail = !powered;
         self.step = Step::Seek(Address::low(0));
         self.phase = if self.is_held_off(powered) {
@@ -56,38 +55,22 @@ impl Master {
     }
 
     /// Data exchange, management and search; how many requests were sent.
-    fn run_normal<L: Line>(
-        &mut self,
-        line: &mut L,
-        orders: &mut Queue<Order>,
-        answers: &mut Queue<Answer>,
-    ) -> u32
-        ensures became { Became (run Phase.Normal (beginning (card_of self.old orders.old answers.old) (meaning (L.power line.old) (L.stations line.old)))) (card_of self.new orders.new answers.new) (meaning (L.power line.new) (L.stations line.new)) result }
-        ensures order_slots { orders.new.slots.now ≡ orders.old.slots.now }
-        ensures answer_slots { FreeWritten answers.old answers.new }
-        ensures order_lender { orders.new.slots.ghost_name ≡ orders.old.slots.ghost_name }
-        ensures answer_lender { answers.new.slots.ghost_name ≡ answers.old.slots.ghost_name }
+    fn run_normal<L: Line>(&mut self, line: &mut L, queues: &mut Queues) -> u32
+        ensures became { Became (run Phase.Normal (beginning (card_of self.old queues.old) (meaning (L.power line.old) (L.stations line.old)))) (card_of self.new queues.new) (meaning (L.power line.new) (L.stations line.new)) result }
+        ensures served { Served queues.old queues.new }
     {
-        let exchanged = exchange(&mut self.table, line);
-        let managed = manage(&mut self.table, line, orders, answers);
-        let (step, searched) = search(&mut self.table, line, self.step);
+        let mode = self.table.mode();
+        let exchanged = exchange(&mut self.table.rows, line);
+        let managed = manage(&mut self.table.rows, line, queues);
+        let (step, searched) = search(mode, &mut self.table.rows, line, self.step);
         self.step = step;
         exchanged + managed + searched
     }
 
     /// Runs one phase; how many requests were sent.
-    fn run<L: Line>(
-        &mut self,
-        phase: Phase,
-        line: &mut L,
-        orders: &mut Queue<Order>,
-        answers: &mut Queue<Answer>,
-    ) -> u32
-        ensures became { Became (run phase (beginning (card_of self.old orders.old answers.old) (meaning (L.power line.old) (L.stations line.old)))) (card_of self.new orders.new answers.new) (meaning (L.power line.new) (L.stations line.new)) result }
-        ensures order_slots { orders.new.slots.now ≡ orders.old.slots.now }
-        ensures answer_slots { FreeWritten answers.old answers.new }
-        ensures order_lender { orders.new.slots.ghost_name ≡ orders.old.slots.ghost_name }
-        ensures answer_lender { answers.new.slots.ghost_name ≡ answers.old.slots.ghost_name }
+    fn run<L: Line>(&mut self, phase: Phase, line: &mut L, queues: &mut Queues) -> u32
+        ensures became { Became (run phase (beginning (card_of self.old queues.old) (meaning (L.power line.old) (L.stations line.old)))) (card_of self.new queues.new) (meaning (L.power line.new) (L.stations line.new)) result }
+        ensures served { Served queues.old queues.new }
     {
         match phase {
             Phase::Offline => {
@@ -96,31 +79,24 @@ impl Master {
             }
             Phase::Detection => {
                 self.phase = Phase::Activation;
-                detect(&mut self.table, line)
+                detect(&mut self.table.rows, line)
             }
             Phase::Activation => {
                 self.phase = Phase::Normal;
-                activate(&mut self.table, line)
+                let mode = self.table.mode();
+                activate(mode, &mut self.table.rows, line)
             }
-            Phase::Normal => self.run_normal(line, orders, answers),
+            Phase::Normal => self.run_normal(line, queues),
         }
     }
 
     /// One cycle on a line: it runs in the offline phase where that is requested or power is down, else in the phase that is next.
-    pub fn cycle<L: Line>(
-        &mut self,
-        line: &mut L,
-        orders: &mut Queue<Order>,
-        answers: &mut Queue<Answer>,
-    ) -> Report
-        ensures cycled { Cycled (card_of self.old orders.old answers.old) (meaning (L.power line.old) (L.stations line.old)) result.phase result.requests (card_of self.new orders.new answers.new) (meaning (L.power line.new) (L.stations line.new)) }
-        ensures order_slots { orders.new.slots.now ≡ orders.old.slots.now }
-        ensures answer_slots { FreeWritten answers.old answers.new }
-        ensures order_lender { orders.new.slots.ghost_name ≡ orders.old.slots.ghost_name }
-        ensures answer_lender { answers.new.slots.ghost_name ≡ answers.old.slots.ghost_name }
+    pub fn cycle<L: Line>(&mut self, line: &mut L, queues: &mut Queues) -> Report
+        ensures cycled { Cycled (card_of self.old queues.old) (meaning (L.power line.old) (L.stations line.old)) result.phase result.requests (card_of self.new queues.new) (meaning (L.power line.new) (L.stations line.new)) }
+        ensures served { Served queues.old queues.new }
     {
         let phase = self.phase_with(line.is_powered());
-        let requests = self.run(phase, line, orders, answers);
+        let requests = self.run(phase, line, queues);
         Report { phase, requests }
     }
 }

@@ -1,16 +1,18 @@
 -- Management takes the oldest order, where one waits and the answer queue is not full. An order for an address that is not in LAS ends
 -- with 8382, and nothing is sent. Any other is sent, and ends with what is heard. A nibble for a parameter order sets PI to the ordered
 -- value. What is sent and heard is that of a line's one station, so that the same rule holds on every kind of line.
-use Rattle.std.specs.Prelude.{◌≡◌, ℕ, Bool, cond, List, [], ◌∷◌, ◌++◌, Some, None, Option, nat_lt}
+use Rattle.std.specs.Prelude.{◌≡◌, ℕ, Bool, cond, List, [], ◌∷◌, ◌++◌, length, Some, None, Option, nat_lt}
 use Rattle.telegrams.specs.Requests.{Asking, Heard, nibble, silence, disturbed, data_exchange, write_parameter, read_io, read_id, resetting}
 use Rattle.stations.specs.Stations.{Place, after, reply}
 use Rattle.lines.specs.Lines.{at}
-use Rattle.queues.specs.Fifo.{oldest_of, take_after}
+use Rattle.queues.specs.Fifo.{held, room, oldest_of, take_after}
 use Rattle.records.specs.Rows.{Row, row_at}
 use Rattle.phases.specs.Activation.{with_pi}
 use Rattle.phases.specs.Visits.{Visit, left_alone, Visited}
-use Rattle.orders.specs.Orders.{ordered, Ending, replied, inactive, Told}
+use Rattle.orders.specs.Orders.{ordered, Ending, replied, inactive}
+use Rattle.orders.specs.Queues.{uncollected}
 use Rattle.orders.specs.declared.order.Order.{Order}
+use Rattle.orders.specs.declared.pair.Queues.{Queues}
 
 -- the module took the request
 abbrev pub taken : Asking → Row → Row
@@ -32,14 +34,15 @@ manage_visit power q r p =
 abbrev pub manage_ending : Bool → Asking → Row → Place → Ending
 manage_ending power q r p = cond r.active (replied (reply power p q)) inactive
 
--- the order that is taken, with n answers uncollected in an answer queue of that room
-abbrev pub next_order : ℕ → ℕ → List Order → Option Order
-next_order room n os = cond (nat_lt n room) (oldest_of os) None
+-- the order that is taken: the oldest, where its answer has room
+abbrev pub next_order : Queues → Option Order
+next_order q = cond (nat_lt (length (held q.answers)) (room q.answers)) (oldest_of (held q.orders)) None
 
--- management took this order, if any: orders, answers, rows and stations before and afterwards, and how many requests were sent
-abbrev pub Managed : Bool → Option Order → List Order → List Order → List Told → List Told → List Row → List Row → List Place → List Place → ℕ → Type 0
-Managed power None os os' ts ts' rs rs' ps ps' n = (os' ≡ os) × (ts' ≡ ts) × (rs' ≡ rs) × (ps' ≡ ps) × (n ≡ 0)
-Managed power (Some o) os os' ts ts' rs rs' ps ps' n =
-    (os' ≡ take_after os)
-    × (ts' ≡ ts ++ record { order = ordered o; how = manage_ending power (ordered o).asking (row_at (ordered o).to rs) (at ps (ordered o).to) } ∷ [])
+-- management took this order, if any: queues, rows and stations before and afterwards, and how many requests were sent
+abbrev pub Managed : Bool → Option Order → Queues → Queues → List Row → List Row → List Place → List Place → ℕ → Type 0
+Managed power None q q' rs rs' ps ps' n =
+    (held q'.orders ≡ held q.orders) × (uncollected q' ≡ uncollected q) × (rs' ≡ rs) × (ps' ≡ ps) × (n ≡ 0)
+Managed power (Some o) q q' rs rs' ps ps' n =
+    (held q'.orders ≡ take_after (held q.orders))
+    × (uncollected q' ≡ uncollected q ++ record { order = ordered o; how = manage_ending power (ordered o).asking (row_at (ordered o).to rs) (at ps (ordered o).to) } ∷ [])
     × Visited (manage_visit power (ordered o).asking) (ordered o).to rs rs' ps ps' n

@@ -1,13 +1,14 @@
 -- Orders of the controller: what each sends, and what may become of it.
-use Rattle.std.specs.Prelude.{ℕ, cond}
+use Rattle.std.specs.Prelude.{ℕ, cond, Ok, Err, Result}
 use Rattle.values.specs.Refusals.{Outcome, gives, refuses}
 use Rattle.telegrams.specs.Requests.{Sent, Heard, nibble, silence, disturbed, write_parameter, resetting}
 use Rattle.records.specs.Rows.{is_module_address}
 use Rattle.orders.specs.declared.order.Answer.{Answer}
-use Rattle.orders.specs.declared.order.Done.{Done}
-use Rattle.orders.specs.declared.order.Done.TheVariants.{Answered, NotActive, Silent, Disturbed}
 use Rattle.orders.specs.declared.order.Order.{Order}
 use Rattle.orders.specs.declared.order.Order.TheVariants.{Parameter, Reset}
+use Rattle.orders.specs.declared.order.Unanswered.{Unanswered}
+use Rattle.orders.specs.declared.order.Unanswered.TheVariants.{NotActive, Silent, Disturbed}
+use Rattle.values.specs.Ranges.{Nibble}
 
 -- an order is the request that carries it out
 abbrev pub ordered : Order → Sent
@@ -23,11 +24,14 @@ pub data Ending : Type 0 where
   replied : Heard → Ending
   inactive : Ending
 
-abbrev pub ending : Done → Ending
-ending (Answered n) = replied (nibble n.value)
-ending NotActive = inactive
-ending Silent = replied silence
-ending Disturbed = replied disturbed
+abbrev pub unanswered : Unanswered → Ending
+unanswered NotActive = inactive
+unanswered Silent = replied silence
+unanswered Disturbed = replied disturbed
+
+abbrev pub ending : Result Nibble Unanswered → Ending
+ending (Ok n) = replied (nibble n.value)
+ending (Err why) = unanswered why
 
 -- the number of an ending; 0 where a nibble came
 abbrev pub ending_number : Ending → ℕ
@@ -47,4 +51,4 @@ pub record Told : Type 0 where
   pub how : Ending
 
 abbrev pub told : Answer → Told
-told x = record { order = ordered x.order; how = ending x.done }
+told x = record { order = ordered x.order; how = ending x.result }

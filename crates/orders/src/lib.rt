@@ -3,3 +3,4 @@
 
 pub mod management;
 pub mod order;
+pub mod pair;

@@ -1,91 +1,70 @@
-ghost use Rattle.std.specs.Prelude.{◌≡◌, ◌≤◌, map, length, slice_set};
+ghost use Rattle.std.specs.Prelude.{◌≡◌, ◌≤◌, slice_set};
 ghost use Rattle.values.specs.Tables.{table};
 ghost use Rattle.lines.specs.Lines.{at};
-ghost use Rattle.queues.specs.Fifo.{held, room, FreeWritten};
 ghost use Rattle.records.specs.Rows.{row_at};
 ghost use Rattle.records.specs.Records.{rows};
 ghost use Rattle.phases.specs.Visits.{Visited};
-ghost use Rattle.orders.specs.Orders.{ordered, ending, requests_of, told};
+ghost use Rattle.orders.specs.Orders.{ordered, ending, requests_of};
 ghost use Rattle.orders.specs.Management.{taken, manage_visit, manage_ending, next_order, Managed};
+ghost use Rattle.orders.specs.Queues.{Served};
 
-use super::order::{Answer, Done, Order};
+use super::order::{Answer, Order, Unanswered};
+use super::pair::Queues;
 use lines::line::Line;
-use queues::queue::Queue;
 use records::entry::Entry;
-use records::record::Record;
+use records::rows::Rows;
 use telegrams::request::Reply;
 use values::address::Address;
+use values::nibble::Nibble;
 
 /// The module took the order: PI is what a parameter order wrote.
-fn note(target: &mut Record, order: Order)
-    ensures mode { target.new.mode ≡ target.old.mode }
-    ensures rows { rows target.new ≡ slice_set (rows target.old) (ordered order).to (taken (ordered order).asking (row_at (ordered order).to (rows target.old))) }
+fn note(target: &mut Rows, order: Order)
+    ensures { rows target.new ≡ slice_set (rows target.old) (ordered order).to (taken (ordered order).asking (row_at (ordered order).to (rows target.old))) }
 {
-    match order {
-        Order::Parameter(to, pi) => {
-            let at = Address::low(u32::from(to.get()));
-            let entry = target.entry(at);
-            target.set_entry(at, Entry { pi, ..entry });
-        }
-        Order::Reset(_) => {}
+    if let Order::Parameter(to, pi) = order {
+        let at = Address::from(to);
+        let entry = target.entry(at);
+        target.set_entry(at, Entry { pi, ..entry });
     }
 }
 
 /// Carries an order out where its address is active.
-pub fn carry_out<L: Line>(target: &mut Record, line: &mut L, order: Order) -> Done
-    ensures mode { target.new.mode ≡ target.old.mode }
+pub fn carry_out<L: Line>(
+    target: &mut Rows,
+    line: &mut L,
+    order: Order,
+) -> Result<Nibble, Unanswered>
     ensures power { L.power line.new ≡ L.power line.old }
     ensures ends { ending result ≡ manage_ending (L.power line.old) (ordered order).asking (row_at (ordered order).to (rows target.old)) (at (table (L.stations line.old)) (ordered order).to) }
     ensures visited { Visited (manage_visit (L.power line.old) (ordered order).asking) (ordered order).to (rows target.old) (rows target.new) (table (L.stations line.old)) (table (L.stations line.new)) (requests_of (ending result)) }
 {
     if !target.is_active(order.address()) {
-        return Done::NotActive;
+        return Err(Unanswered::NotActive);
     }
     match line.carry(order.request()) {
         Reply::Answer(nibble) => {
             note(target, order);
-            Done::Answered(nibble)
+            Ok(nibble)
         }
-        Reply::Silence => Done::Silent,
-        Reply::Disturbed => Done::Disturbed,
+        Reply::Silence => Err(Unanswered::Silent),
+        Reply::Disturbed => Err(Unanswered::Disturbed),
     }
 }
 
-/// The order that is carried out next: the oldest, where its answer has room.
-fn next(orders: &Queue<Order>, answers: &Queue<Answer>) -> Option<Order>
-    ensures { result ≡ next_order (room answers.now) (length (held answers.now)) (held orders.now) }
-{
-    if answers.len() < answers.capacity() {
-        orders.oldest()
-    } else {
-        None
-    }
-}
-
-/// Takes the oldest order, where one waits and its answer has room, carries it out and puts its answer; how many requests were sent.
-pub fn manage<L: Line>(
-    target: &mut Record,
-    line: &mut L,
-    orders: &mut Queue<Order>,
-    answers: &mut Queue<Answer>,
-) -> u32
-    ensures mode { target.new.mode ≡ target.old.mode }
+/// Carries out the next order, if any, and puts its answer; how many requests were sent.
+pub fn manage<L: Line>(target: &mut Rows, line: &mut L, queues: &mut Queues) -> u32
     ensures power { L.power line.new ≡ L.power line.old }
     ensures few { result ≤ 1 }
-    ensures managed { Managed (L.power line.old) (next_order (room answers.old) (length (held answers.old)) (held orders.old)) (held orders.old) (held orders.new) (map told (held answers.old)) (map told (held answers.new)) (rows target.old) (rows target.new) (table (L.stations line.old)) (table (L.stations line.new)) result }
-    ensures order_slots { orders.new.slots.now ≡ orders.old.slots.now }
-    ensures answer_slots { FreeWritten answers.old answers.new }
-    ensures order_room { room orders.new ≡ room orders.old }
-    ensures order_lender { orders.new.slots.ghost_name ≡ orders.old.slots.ghost_name }
-    ensures answer_room { room answers.new ≡ room answers.old }
-    ensures answer_lender { answers.new.slots.ghost_name ≡ answers.old.slots.ghost_name }
+    ensures managed { Managed (L.power line.old) (next_order queues.old) queues.old queues.new (rows target.old) (rows target.new) (table (L.stations line.old)) (table (L.stations line.new)) result }
+    ensures served { Served queues.old queues.new }
 {
-    let Some(order) = next(orders, answers) else {
+    let Some(order) = queues.next() else {
         return 0;
     };
-    let done = carry_out(target, line, order);
-    // Neither can be refused: `next` found an order, and room for its answer.
-    let _ = orders.take();
-    let _ = answers.put(Answer { order, done });
-    done.requests()
+    let answer = Answer {
+        order,
+        result: carry_out(target, line, order),
+    };
+    queues.finish(answer);
+    answer.requests()
 }

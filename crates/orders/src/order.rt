@@ -1,7 +1,7 @@
 ghost use Rattle.std.specs.Prelude.{◌≡◌};
 ghost use Rattle.values.specs.Refusals.{outcome};
 ghost use Rattle.telegrams.specs.Requests.{sent, with_nibble, write_parameter};
-ghost use Rattle.orders.specs.Orders.{ordered, reset_ordered, ending, ending_number, requests_of};
+ghost use Rattle.orders.specs.Orders.{ordered, reset_ordered, unanswered, ending_number, requests_of, told};
 
 use telegrams::request::Request;
 use values::address::Address;
@@ -10,7 +10,7 @@ use values::nibble::Nibble;
 use values::refusal::Refusal;
 
 /// What the controller orders for one module.
-#[derive(Clone, Copy)]
+#[derive(Clone, Copy, PartialEq, Eq)]
 pub enum Order {
     Parameter(ModuleAddress, Nibble),
     Reset(ModuleAddress),
@@ -20,22 +20,21 @@ impl Order {
     pub fn parameter(address: u32, value: u32) -> Result<Order, Refusal>
         ensures { outcome ordered result ≡ with_nibble write_parameter address value }
     {
-        let to = ModuleAddress::new(address)?;
-        Ok(Order::Parameter(to, Nibble::new(value)?))
+        let to = ModuleAddress::try_from(address)?;
+        Ok(Order::Parameter(to, Nibble::try_from(value)?))
     }
 
     pub fn reset(address: u32) -> Result<Order, Refusal>
         ensures { outcome ordered result ≡ reset_ordered address }
     {
-        Ok(Order::Reset(ModuleAddress::new(address)?))
+        Ok(Order::Reset(ModuleAddress::try_from(address)?))
     }
 
     pub fn address(self) -> Address
         ensures { result.value ≡ (ordered self).to }
     {
         match self {
-            Order::Parameter(to, _) => Address::low(u32::from(to.get())),
-            Order::Reset(to) => Address::low(u32::from(to.get())),
+            Order::Parameter(to, _) | Order::Reset(to) => Address::from(to),
         }
     }
 
@@ -45,50 +44,47 @@ impl Order {
     {
         match self {
             Order::Parameter(to, value) => Request::WriteParameter(to, value),
-            Order::Reset(to) => Request::Reset(Address::low(u32::from(to.get()))),
+            Order::Reset(to) => Request::Reset(Address::from(to)),
         }
     }
 }
 
-/// What became of an order.
-#[derive(Clone, Copy)]
-pub enum Done {
-    Answered(Nibble),
+/// Why no nibble came for an order.
+#[derive(Clone, Copy, PartialEq, Eq)]
+pub enum Unanswered {
+    /// Its address was not active, so that nothing was sent.
     NotActive,
     Silent,
     Disturbed,
 }
 
-impl Done {
-    /// The number that the controller is given where no nibble came: 8382 for an address that was not active, 8383 for silence and for a
-    /// disturbed reply; 0 where a nibble came.
+impl Unanswered {
+    /// The number that the controller is given.
     pub fn number(self) -> u16
-        ensures { result ≡ ending_number (ending self) }
+        ensures { result ≡ ending_number (unanswered self) }
     {
         match self {
-            Done::Answered(_) => 0,
-            Done::NotActive => 0x8382,
-            Done::Silent => 0x8383,
-            Done::Disturbed => 0x8383,
-        }
-    }
-
-    /// How many requests were sent.
-    pub fn requests(self) -> u32
-        ensures { result ≡ requests_of (ending self) }
-    {
-        match self {
-            Done::NotActive => 0,
-            Done::Answered(_) => 1,
-            Done::Silent => 1,
-            Done::Disturbed => 1,
+            Unanswered::NotActive => 0x8382,
+            Unanswered::Silent | Unanswered::Disturbed => 0x8383,
         }
     }
 }
 
-/// An order with what became of it.
-#[derive(Clone, Copy)]
+/// An order with what became of it: the nibble that the module answered, or why none came.
+#[derive(Clone, Copy, PartialEq, Eq)]
 pub struct Answer {
     pub order: Order,
-    pub done: Done,
+    pub result: Result<Nibble, Unanswered>,
+}
+
+impl Answer {
+    /// How many requests were sent for the order.
+    pub fn requests(self) -> u32
+        ensures { result ≡ requests_of (told self).how }
+    {
+        match self.result {
+            Err(Unanswered::NotActive) => 0,
+            Ok(_) | Err(_) => 1,
+        }
+    }
 }

@@ -13,35 +13,11 @@ abbrev pub admissible : Mode → ℕ → Row → Bool
 admissible mode a r = not (a == 0) && (nat_lt r.cdi.io 15 && (in_configuration mode || (r.projected && same_codes r.cdi r.pcd)))
 
 abbrev pub with_pi : ℕ → Row → Row
-with_pi n r =
-    record {
-      detected = r.detected;
-      active = r.active;
-      projected = r.projected;
-      cdi = r.cdi;
-      pcd = r.pcd;
-      pi = n;
-      pp = r.pp;
-      idi = r.idi;
-      odi = r.odi;
-      misses = r.misses;
-    }
+with_pi n r = record r { pi = n }
 
 -- it joins LAS, which lies within LDS
 abbrev pub joining : Row → Row
-joining r =
-    record {
-      detected = true;
-      active = true;
-      projected = r.projected;
-      cdi = r.cdi;
-      pcd = r.pcd;
-      pi = r.pp;
-      pp = r.pp;
-      idi = 0;
-      odi = r.odi;
-      misses = 0;
-    }
+joining r = record r { detected = true; active = true; pi = r.pp; idi = 0; misses = 0 }
 
 abbrev pub entered : Row → Heard → Row
 entered r (nibble n) = joining r
@@ -55,6 +31,9 @@ enter_visit power r p =
       place = after power p (write_parameter r.pp);
       sent = write_parameter r.pp ∷ [];
     }
+
+abbrev pub admit_visit : Mode → Bool → ℕ → Row → Place → Visit
+admit_visit mode power a r p = cond (admissible mode a r) (enter_visit power r p) (left_alone r p)
 
 abbrev pub activate_visit : Mode → Bool → ℕ → Row → Place → Visit
 activate_visit mode power a r p = cond (r.detected && admissible mode a r) (enter_visit power r p) (left_alone r p)

@@ -6,19 +6,7 @@ use Rattle.records.specs.Rows.{Pair, Row}
 use Rattle.phases.specs.Visits.{Visit}
 
 abbrev pub found : Pair → Row → Row
-found codes r =
-    record {
-      detected = true;
-      active = r.active;
-      projected = r.projected;
-      cdi = codes;
-      pcd = r.pcd;
-      pi = r.pi;
-      pp = r.pp;
-      idi = r.idi;
-      odi = r.odi;
-      misses = r.misses;
-    }
+found codes r = record r { detected = true; cdi = codes }
 
 -- the I/O code was c, and this is heard of the ID code
 abbrev pub named : ℕ → Row → Heard → Row
@@ -31,8 +19,7 @@ name_visit power c r p = record { row = named c r (reply power p read_id); place
 
 -- Read_IO made the station p, and this was heard
 abbrev pub detect_further : Bool → Row → Place → Heard → Visit
-detect_further power r p (nibble c) =
-    record { row = (name_visit power c r p).row; place = (name_visit power c r p).place; sent = read_io ∷ (name_visit power c r p).sent }
+detect_further power r p (nibble c) = record (name_visit power c r p) { sent = read_io ∷ read_id ∷ [] }
 detect_further power r p silence = record { row = r; place = p; sent = read_io ∷ [] }
 detect_further power r p disturbed = record { row = r; place = p; sent = read_io ∷ [] }
 

@@ -7,34 +7,14 @@ use Rattle.records.specs.Rows.{Row, no_codes}
 use Rattle.phases.specs.Visits.{Visit, left_alone}
 
 abbrev pub with_data : ℕ → ℕ → Row → Row
-with_data idi misses r =
-    record {
-      detected = r.detected;
-      active = r.active;
-      projected = r.projected;
-      cdi = r.cdi;
-      pcd = r.pcd;
-      pi = r.pi;
-      pp = r.pp;
-      idi = idi;
-      odi = r.odi;
-      misses = misses;
-    }
+with_data idi misses r = record r { idi = idi; misses = misses }
+
+-- out of LDS and LAS, with no codes detected
+abbrev pub lost : Row → Row
+lost r = record r { detected = false; active = false; cdi = no_codes }
 
 abbrev pub dropped : Row → Row
-dropped r =
-    record {
-      detected = false;
-      active = false;
-      projected = r.projected;
-      cdi = no_codes;
-      pcd = r.pcd;
-      pi = r.pi;
-      pp = r.pp;
-      idi = 0;
-      odi = r.odi;
-      misses = 0;
-    }
+dropped r = with_data 0 0 (lost r)
 
 abbrev pub missed : Row → Row
 missed r = cond (nat_lt r.misses 2) (with_data r.idi (r.misses + 1) r) (dropped r)

@@ -3,37 +3,34 @@ ghost use Rattle.values.specs.Tables.{table};
 ghost use Rattle.records.specs.Rows.{row_at};
 ghost use Rattle.records.specs.Records.{rows};
 ghost use Rattle.phases.specs.Visits.{Visited, AllVisited};
-ghost use Rattle.phases.specs.Activation.{admissible, enter_visit, activate_visit};
+ghost use Rattle.phases.specs.Activation.{admissible, enter_visit, admit_visit, activate_visit};
 
+use super::visitor::{Visitor, visit_all};
 use lines::line::Line;
 use records::entry::Entry;
-use records::record::{Mode, Record};
+use records::record::Mode;
+use records::rows::Rows;
 use telegrams::request::{Reply, Request};
 use values::address::Address;
 use values::module_address::ModuleAddress;
 use values::nibble::Nibble;
 
 /// Whether a module with the codes that were detected at an address may be activated.
-pub fn is_admissible(target: &Record, address: Address) -> bool
-    ensures { result ≡ admissible target.now.mode address.value (row_at address.value (rows target.now)) }
+pub fn is_admissible(mode: Mode, target: &Rows, address: Address) -> bool
+    ensures { result ≡ admissible mode address.value (row_at address.value (rows target.now)) }
 {
     let entry = target.entry(address);
-    if address.get() == 0 || entry.cdi.io.get() == 15 {
-        return false;
-    }
-    match target.mode() {
-        Mode::Configuration => true,
-        Mode::Protected => target.is_projected(address) && entry.cdi.same(entry.pcd),
-    }
+    address.get() != 0
+        && entry.cdi.io.get() != 15
+        && (mode == Mode::Configuration || target.is_projected(address) && entry.cdi == entry.pcd)
 }
 
 /// Sets PI to PP and sends it; where a nibble comes, the address joins LAS.
-pub fn enter<L: Line>(target: &mut Record, line: &mut L, address: ModuleAddress)
-    ensures mode { target.new.mode ≡ target.old.mode }
+pub fn enter<L: Line>(target: &mut Rows, line: &mut L, address: ModuleAddress)
     ensures power { L.power line.new ≡ L.power line.old }
     ensures visited { Visited (enter_visit (L.power line.old)) address.value (rows target.old) (rows target.new) (table (L.stations line.old)) (table (L.stations line.new)) 1 }
 {
-    let at = Address::low(u32::from(address.get()));
+    let at = Address::from(address);
     let entry = target.entry(at);
     let pi = entry.pp;
     match line.carry(Request::WriteParameter(address, pi)) {
@@ -49,39 +46,53 @@ pub fn enter<L: Line>(target: &mut Record, line: &mut L, address: ModuleAddress)
                 },
             );
         }
-        Reply::Silence => target.set_entry(at, Entry { pi, ..entry }),
-        Reply::Disturbed => target.set_entry(at, Entry { pi, ..entry }),
+        Reply::Silence | Reply::Disturbed => target.set_entry(at, Entry { pi, ..entry }),
     }
 }
 
-/// Enters an address that is detected and admissible; how many requests were sent.
-fn activate_at<L: Line>(target: &mut Record, line: &mut L, address: ModuleAddress) -> u32
-    ensures mode { target.new.mode ≡ target.old.mode }
+/// Enters an address where it is admissible; how many requests were sent.
+pub fn enter_admissible<L: Line>(
+    mode: Mode,
+    target: &mut Rows,
+    line: &mut L,
+    address: Address,
+) -> u32
     ensures power { L.power line.new ≡ L.power line.old }
     ensures few { result ≤ 1 }
-    ensures visited { Visited (activate_visit target.old.mode (L.power line.old) address.value) address.value (rows target.old) (rows target.new) (table (L.stations line.old)) (table (L.stations line.new)) result }
+    ensures visited { Visited (admit_visit mode (L.power line.old) address.value) address.value (rows target.old) (rows target.new) (table (L.stations line.old)) (table (L.stations line.new)) result }
 {
-    let at = Address::low(u32::from(address.get()));
-    if !target.is_detected(at) {
+    let Ok(to) = ModuleAddress::try_from(u32::from(address)) else {
+        return 0;
+    };
+    if !is_admissible(mode, target, address) {
         return 0;
     }
-    if !is_admissible(target, at) {
-        return 0;
-    }
-    enter(target, line, address);
+    enter(target, line, to);
     1
 }
 
+/// Enters an address that is detected and admissible.
+#[derive(Clone, Copy)]
+struct Activator {
+    mode: Mode,
+}
+
+impl Visitor for Activator {
+    ghost visiting = { λ v. activate_visit v.mode };
+
+    fn visit<L: Line>(&self, target: &mut Rows, line: &mut L, address: Address) -> u32 {
+        if !target.is_detected(address) {
+            return 0;
+        }
+        enter_admissible(self.mode, target, line, address)
+    }
+}
+
 /// Enters every address that is detected and admissible, lowest first; how many requests were sent.
-pub fn activate<L: Line>(target: &mut Record, line: &mut L) -> u32
-    ensures mode { target.new.mode ≡ target.old.mode }
+pub fn activate<L: Line>(mode: Mode, target: &mut Rows, line: &mut L) -> u32
     ensures power { L.power line.new ≡ L.power line.old }
     ensures few { result ≤ 31 }
-    ensures visited { AllVisited (activate_visit target.old.mode (L.power line.old)) (rows target.old) (rows target.new) (table (L.stations line.old)) (table (L.stations line.new)) result }
+    ensures visited { AllVisited (activate_visit mode (L.power line.old)) (rows target.old) (rows target.new) (table (L.stations line.old)) (table (L.stations line.new)) result }
 {
-    let mut sent = 0;
-    for a in 1..32u32 {
-        sent += activate_at(target, line, ModuleAddress::nth(a - 1));
-    }
-    sent
+    visit_all(&Activator { mode }, target, line)
 }

@@ -5,8 +5,8 @@ use Rattle.std.specs.List.{AllByRecursion, range_with_len}
 use Rattle.std.proofs.lemmas.Bool.{cond-false, cond_both, and_parts, not-true, eqb-true, ltb-true, false≢true}
 use Rattle.std.proofs.lemmas.List.FromFn.{get_or-range_with_len}
 use Rattle.values.specs.Tables.{table}
-use Rattle.values.specs.Tests.{every}
-use Rattle.values.proofs.Tests.{every_at}
+use Rattle.std.specs.List.{list_all}
+use Rattle.values.proofs.Tests.{list_all-at_place}
 use Rattle.telegrams.specs.Requests.{Asking, Sent}
 use Rattle.stations.specs.Stations.{State, Place, vacant, occupied}
 use Rattle.lines.specs.Lines.{at}
@@ -297,14 +297,14 @@ module _ (b : ℕ) where
 
 -- it does at every address, by computation
 
-waits_everywhere : every all_wait (range_with_len 1 31) ≡ true
+waits_everywhere : list_all all_wait (range_with_len 1 31) ≡ true
 unfolding waits table sent_below pick_within new_control everywhere manage search_on stay_offline cycle sent_to
 waits_everywhere = refl
 
 waits_at : (b : ℕ) → 1 ≤ b → b < 32 → all_wait b ≡ true
 waits_at b low high =
     let one : 1 + (b - 1) ≡ b = omega arith in
-    subst (λ (k : ℕ). all_wait k ≡ true) (get_or-range_with_len 1 31 (b - 1) 0 (omega arith) ∙ one) (every_at all_wait 0 (range_with_len 1 31) waits_everywhere (b - 1) (omega arith))
+    subst (λ (k : ℕ). all_wait k ≡ true) (get_or-range_with_len 1 31 (b - 1) 0 (omega arith) ∙ one) (list_all-at_place all_wait 0 (range_with_len 1 31) waits_everywhere (b - 1) (omega arith))
 
 pub least_bound : LeastBound 97
 least_bound =

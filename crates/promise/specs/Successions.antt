@@ -10,7 +10,8 @@ use Rattle.records.specs.Edits.{Edit, edit_after}
 use Rattle.records.specs.declared.record.Mode.{Mode}
 use Rattle.records.specs.declared.record.Mode.TheVariants.{Configuration}
 use Rattle.orders.specs.Orders.{reset_ordered, Told}
-use Rattle.master.specs.Placing.{place_outcome, orders_after}
+use Rattle.orders.specs.Queues.{orders_after}
+use Rattle.master.specs.Placing.{place_outcome}
 use Rattle.master.specs.Cycles.{Control, Card, Meaning, with_rows, with_mode, with_control, cycle}
 
 -- an order as the controller asks for it, with any numbers

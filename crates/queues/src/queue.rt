@@ -6,6 +6,7 @@ use values::refusal::Refusal;
 
 /// First in, first out over the caller's slice; freed places are used again.
 /// Whatever `head` and `len` are, they mean a queue: a head past the end counts as 0, a length past the slice's as that.
+// No `VecDeque`: the memory is fixed, and the caller's.
 #[derive(Drop)]
 pub struct Queue<'a, T> {
     slots: &'a mut [T],

@@ -1,7 +1,7 @@
 -- Racks: lines that are opened from an image and written out as one.
 -- Both directions are laws on the contracts: what a good image says is what the opened rack means, and the words that are written
 -- out say what the rack means. So a rack that is empty for every image is shut out.
-use Rattle.std.specs.Prelude.{◌≡◌, ℕ, Bool, true, false, cond, List, map, length, None, Ok, Err, Result, slice_index_or, slice_set}
+use Rattle.std.specs.Prelude.{◌≡◌, ℕ, ◌<◌, ◌≤◌, Bool, true, false, cond, List, map, length, None, Ok, Err, Result, slice_index_or, slice_set}
 use Rattle.stations.specs.declared.station.Station.{Station}
 use Rattle.values.specs.Refusals.{numbered}
 use Rattle.values.specs.declared.refusal.Refusal.{Refusal}
@@ -9,7 +9,7 @@ use Rattle.telegrams.specs.Requests.{Sent, Heard, silence, heard}
 use Rattle.telegrams.specs.declared.request.Reply.{Reply}
 use Rattle.telegrams.specs.Words.{WordOf}
 use Rattle.stations.specs.Stations.{Place, place_of, after}
-use Rattle.stations.specs.Images.{good_image, powered_in, place_at, word_of, image_of}
+use Rattle.stations.specs.Images.{place_in, good_station, good_image, powered_in, place_at, word_of, power_word_lem, image_of}
 use Rattle.values.specs.Tables.{table}
 use Rattle.lines.specs.Lines.{line_after, line_reply, halved, repeated_after}
 
@@ -27,6 +27,11 @@ Opened power stations ws (Ok r) =
     (good_image ws ≡ true) × (power r ≡ powered_in ws) × (table (stations r) ≡ table (place_at ws))
     × (image_of (power r) (table (stations r)) ≡ ws)
 Opened power stations ws (Err e) = (good_image ws ≡ false) × (numbered e ≡ 0x8313)
+
+-- word k of the image that says power and stations: a good word that says station k, and behind those the word that says power
+abbrev pub IsImageWord : Bool → (ℕ → Place) → ℕ → ℕ → Type 0
+IsImageWord power stations k w =
+    (k < 32 → (w ≡ word_of (stations k)) × (place_in w ≡ stations k) × (good_station w ≡ true)) × (32 ≤ k → w ≡ power_word_lem power)
 
 -- Writing a rack out: into a slice of 33 words goes its image, which is good and says what the rack means; another slice stays as it is
 abbrev pub Written : Bool → (ℕ → Place) → List ℕ → List ℕ → Result (Unit {0}) Refusal → Type 0

@@ -9,8 +9,9 @@ ghost use Rattle.racks.specs.Racks.{Opened};
 
 use super::rack::Rack;
 use lines::line::Line;
-use stations::image::{POWER_UP, STATIONS, is_image};
+use stations::image::{POWER_UP, STATIONS, test_image};
 use stations::station::Station;
+use std::array;
 use telegrams::request::{Reply, Request};
 use values::address::Address;
 use values::refusal::Refusal;
@@ -27,11 +28,7 @@ fn stations_in(words: &[u32]) -> [Station; STATIONS]
     requires { 32 < length words.now }
     ensures { table (station_at result) ≡ table (place_at words.now) }
 {
-    let mut stations = [Station { module: None }; STATIONS];
-    for a in 0..STATIONS {
-        stations[a] = Station::from_word(words[a]);
-    }
-    stations
+    array::from_fn(|a| Station::from_word(words[a]))
 }
 
 impl BenchRack {
@@ -39,9 +36,7 @@ impl BenchRack {
     pub fn open(words: &[u32]) -> Result<BenchRack, Refusal>
         ensures { Opened (λ b. b.powered) (λ b. station_at b.stations) words.now result }
     {
-        if !is_image(words) {
-            return Err(Refusal::BadImage);
-        }
+        test_image(words)?;
         Ok(BenchRack {
             powered: words[STATIONS] == POWER_UP,
             stations: stations_in(words),
@@ -76,6 +71,6 @@ impl Rack for BenchRack {
     fn station(&self, address: Address) -> Station
         ensures { place_of result ≡ station_at self.now.stations address.value }
     {
-        self.stations[usize::from(address.get())]
+        self.stations[usize::from(address)]
     }
 }

@@ -7,7 +7,7 @@ ghost use Rattle.racks.specs.Racks.{Opened, Carried, Received};
 
 use super::rack::Rack;
 use lines::line::Line;
-use stations::image::{POWER_UP, STATIONS, is_image};
+use stations::image::{POWER_UP, STATIONS, test_image};
 use stations::station::Station;
 use telegrams::request::{Reply, Request};
 use telegrams::word::{decode_request, encode_request};
@@ -27,9 +27,7 @@ impl<'a> ImageRack<'a> {
         ensures holds { elim result [ Ok i ↦ i.words.now ≡ words.old | Err _ ↦ Unit {0} ] }
         ensures lender { elim result [ Ok i ↦ i.words.ghost_name ≡ words.entry.ghost_name | Err _ ↦ Unit {0} ] }
     {
-        if !is_image(words) {
-            return Err(Refusal::BadImage);
-        }
+        test_image(words)?;
         Ok(ImageRack { words })
     }
 
@@ -52,6 +50,7 @@ impl<'a> ImageRack<'a> {
         }
     }
 
+    // Read and written back, where the bench rack lends its station in place: here a station is a word.
     fn hear(&mut self, request: Request) -> Reply
         ensures carried { Carried (sent request) self.old.words.now self.new.words.now (heard result) }
         ensures lender { self.new.words.ghost_name ≡ self.old.words.ghost_name }
@@ -73,7 +72,7 @@ impl Line for ImageRack<'_> {
     ghost stations = { λ i. place_at i.words.now };
 
     fn is_powered(&self) -> bool {
-        self.words.len() > STATIONS && self.words[STATIONS] == POWER_UP
+        self.words.get(STATIONS) == Some(&POWER_UP)
     }
 
     fn carry(&mut self, request: Request) -> Reply
@@ -89,11 +88,9 @@ impl Line for ImageRack<'_> {
 
 impl Rack for ImageRack<'_> {
     fn station(&self, address: Address) -> Station {
-        let a = usize::from(address.get());
-        if a < self.words.len() {
-            Station::from_word(self.words[a])
-        } else {
-            Station { module: None }
+        match self.words.get(usize::from(address)) {
+            Some(&word) => Station::from_word(word),
+            None => Station { module: None },
         }
     }
 }

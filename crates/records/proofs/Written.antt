@@ -3,14 +3,14 @@ use Rattle.std.proofs.Common.{◌≡◌, ℕ, ◌/◌, ◌%◌, ◌<◌, Bool, f
 use Rattle.std.proofs.lemmas.List.{get_or-replicate, length-map, map-set, get_or-map, get_or-set_same, get_or-set_other}
 use Rattle.values.specs.Tables.{table}
 use Rattle.values.proofs.Tables.{length-table, at_table, same_table, table_write}
-use Rattle.values.specs.declared.nibble.Nibble.{Nibble}
+use Rattle.values.specs.Ranges.{Nibble}
 use Rattle.lists.specs.Members.{has, placed}
 use Rattle.lists.proofs.Laws.{has_none, has_placed_same, has_placed_other}
 use Rattle.records.specs.Rows.{Row, new_row, new_rows, row_at}
 use Rattle.records.specs.Records.{pair_of, row_of, with_entry, listed, row_in, rows}
-use Rattle.records.specs.Edits.{planned, copied}
+use Rattle.records.specs.Edits.{planned}
 use Rattle.std.proofs.lemmas.Bool.{ne_eqb}
-use Rattle.records.specs.declared.record.Record.{Record}
+use Rattle.records.specs.declared.rows.Rows.{Rows}
 use Rattle.records.specs.declared.entry.Codes.{Codes}
 use Rattle.records.specs.declared.entry.Entry.{Entry}
 
@@ -75,13 +75,6 @@ planned_at lds las lps lps' es i a e projected codes parameter to is inside size
     ∙ planned_rows lds las lps es i e projected codes parameter inside sized read
     ∙ ap (λ (n : ℕ). set (table (row_in lds las lps es)) n (planned projected (pair_of codes) parameter.value (row_at n (table (row_in lds las lps es))))) to
 
--- planning what an entry has detected copies its row
-pub copied_is : (rs rs' : List Row) (a : ℕ) (d x p detected : Bool) (e : Entry) → row_at a rs ≡ row_of d x p e → detected ≡ d → rs' ≡ set rs a (planned detected (pair_of e.cdi) e.pi.value (row_at a rs)) → rs' ≡ set rs a (copied (row_at a rs))
-copied_is rs rs' a d x p detected e is same written =
-    written
-    ∙ ap (λ (b : Bool). set rs a (planned b (pair_of e.cdi) e.pi.value (row_at a rs))) same
-    ∙ ap (set rs a) (ap (planned d (pair_of e.cdi) e.pi.value) is ∙ sym (ap copied is))
-
 -- an entry that is read is that of its row
 pub entry_read : (lds las lps : ℕ) (es : List Entry) (i a : ℕ) (e : Entry) → i ≡ a → i < 32 → length es ≡ 32 → e ≡ get_or es i e → with_entry e (row_at a (table (row_in lds las lps es))) ≡ row_at a (table (row_in lds las lps es))
 entry_read lds las lps es i a e to inside sized read =
@@ -110,10 +103,10 @@ relisted lds las lps lds' las' es i a e d c to inside sized here_d here_c other_
     ∙ ap (λ (b : Bool). row_of d c b e) (sym (ap (λ (r : Row). r.projected) (row_is lds las lps es a (omega arith)))))
 
 -- address 0 is never active
-pub zero_inactive : (r : Record) → (row_at 0 (rows r)).active ≡ false
+pub zero_inactive : (r : Rows) → (row_at 0 (rows r)).active ≡ false
 zero_inactive r =
     ap (λ (x : Row). x.active) (row_is r.lists.lds r.lists.las r.lps r.entries 0 (omega arith))
     ∙ ne_eqb (r.lists.las / 1 % 2) 1 (λ e. omega (arith, r.lists.ok.1))
 
-pub rows_sized : (r : Record) → length (rows r) ≡ 32
+pub rows_sized : (r : Rows) → length (rows r) ≡ 32
 rows_sized r = length-table (row_in r.lists.lds r.lists.las r.lps r.entries)

@@ -6,6 +6,8 @@ use Rattle.values.specs.Refusals.{Outcome, gives, refuses, accepts}
 use Rattle.values.specs.Tables.{table}
 use Rattle.records.specs.Rows.{Pair, Row, no_codes, row_at, is_module_address}
 use Rattle.records.specs.Modes.{in_configuration}
+use Rattle.records.specs.declared.edit.Edit.{Edit as Made}
+use Rattle.records.specs.declared.edit.Edit.TheVariants.{Project, Unproject, TakeOver}
 use Rattle.records.specs.declared.record.Mode.{Mode}
 
 pub data Edit : Type 0 where
@@ -13,6 +15,12 @@ pub data Edit : Type 0 where
   projecting : ℕ → ℕ → ℕ → ℕ → Edit
   unprojecting : ℕ → Edit
   taking_over : Edit
+
+-- what an edit of the program asks for
+abbrev pub change_of : Made → Edit
+change_of (Project a io id pp) = projecting a io id pp
+change_of (Unproject a) = unprojecting a
+change_of TakeOver = taking_over
 
 -- Refusals
 
@@ -29,19 +37,7 @@ edit_outcome mode taking_over = by_mode mode
 
 -- whether the address is projected, with which codes, and with which permanent parameter
 abbrev pub planned : Bool → Pair → ℕ → Row → Row
-planned projected codes pp r =
-    record {
-      detected = r.detected;
-      active = r.active;
-      projected = projected;
-      cdi = r.cdi;
-      pcd = codes;
-      pi = r.pi;
-      pp = pp;
-      idi = r.idi;
-      odi = r.odi;
-      misses = r.misses;
-    }
+planned projected codes pp r = record r { projected = projected; pcd = codes; pp = pp }
 
 abbrev pub copied : Row → Row
 copied r = planned r.detected r.cdi r.pi r

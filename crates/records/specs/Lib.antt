@@ -2,3 +2,4 @@ pub mod Rows
 pub mod Modes
 pub mod Records
 pub mod Edits
+pub mod Editing

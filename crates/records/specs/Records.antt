@@ -1,11 +1,11 @@
--- What the program's record means: its rows.
+-- What the program's rows mean.
 use Rattle.std.specs.Prelude.{ℕ, Bool, true, false, List, map, slice_index_or}
 use Rattle.values.specs.Tables.{table}
 use Rattle.lists.specs.Members.{has}
 use Rattle.records.specs.Rows.{Pair, Row, new_row}
 use Rattle.records.specs.declared.entry.Codes.{Codes}
 use Rattle.records.specs.declared.entry.Entry.{Entry}
-use Rattle.records.specs.declared.record.Record.{Record}
+use Rattle.records.specs.declared.rows.Rows.{Rows}
 
 abbrev pub pair_of : Codes → Pair
 pair_of c = record { io = c.io.value; id = c.id.value }
@@ -42,22 +42,10 @@ abbrev pub forgotten_with : Entry → Row → Row
 forgotten_with e r = row_of false false r.projected e
 
 abbrev pub listed : Bool → Bool → Bool → Row → Row
-listed detected active projected r =
-    record {
-      detected = detected;
-      active = active;
-      projected = projected;
-      cdi = r.cdi;
-      pcd = r.pcd;
-      pi = r.pi;
-      pp = r.pp;
-      idi = r.idi;
-      odi = r.odi;
-      misses = r.misses;
-    }
+listed detected active projected r = record r { detected = detected; active = active; projected = projected }
 
 abbrev pub row_in : ℕ → ℕ → ℕ → List Entry → ℕ → Row
 row_in lds las lps es a = listed (has lds a) (has las a) (has lps a) (slice_index_or (map (row_of false false false) es) a new_row)
 
-abbrev pub rows : Record → List Row
+abbrev pub rows : Rows → List Row
 rows r = table (row_in r.lists.lds r.lists.las r.lps r.entries)

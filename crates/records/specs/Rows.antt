@@ -3,7 +3,7 @@
 use Rattle.std.specs.Prelude.{ℕ, ◌-◌, Bool, false, cond, not, ◌&&◌, List, ◌==◌, nat_lt, slice_index_or, slice_set}
 use Rattle.values.specs.Refusals.{Outcome, gives, refuses, accepts}
 use Rattle.values.specs.Tables.{table}
-use Rattle.values.specs.Tests.{every}
+use Rattle.std.specs.List.{list_all}
 
 -- an I/O code and an ID code
 pub record Pair : Type 0 where
@@ -50,19 +50,7 @@ row_at a rs = slice_index_or rs a new_row
 -- Writing outputs: what the controller gives is stored inverted, 15 less the nibble
 
 abbrev pub with_odi : ℕ → Row → Row
-with_odi n r =
-    record {
-      detected = r.detected;
-      active = r.active;
-      projected = r.projected;
-      cdi = r.cdi;
-      pcd = r.pcd;
-      pi = r.pi;
-      pp = r.pp;
-      idi = r.idi;
-      odi = n;
-      misses = r.misses;
-    }
+with_odi n r = record r { odi = n }
 
 abbrev pub is_module_address : ℕ → Bool
 is_module_address a = nat_lt 0 a && nat_lt a 32
@@ -88,4 +76,4 @@ abbrev pub agreeing : Row → Bool
 agreeing r = cond r.detected (r.projected && same_codes r.cdi r.pcd) (not r.projected)
 
 abbrev pub config_ok : List Row → Bool
-config_ok rs = not (row_at 0 rs).detected && every agreeing rs
+config_ok rs = not (row_at 0 rs).detected && list_all agreeing rs

@@ -1,27 +1,28 @@
 ghost use Rattle.std.specs.Prelude.{◌≡◌};
-ghost use Rattle.records.specs.Rows.{same_codes};
+ghost use Rattle.records.specs.Rows.{no_codes};
 ghost use Rattle.records.specs.Records.{pair_of};
 
 use values::nibble::Nibble;
 
 /// The I/O code and the ID code of a module.
-#[derive(Clone, Copy)]
+#[derive(Clone, Copy, PartialEq, Eq)]
 pub struct Codes {
     pub io: Nibble,
     pub id: Nibble,
 }
 
 impl Codes {
-    /// Whether both codes are the same.
-    pub fn same(self, other: Codes) -> bool
-        ensures { result ≡ same_codes (pair_of self) (pair_of other) }
+    /// What stands for the codes where no module was detected or projected.
+    pub fn none() -> Codes
+        ensures { pair_of result ≡ no_codes }
     {
-        self.io.get() == other.io.get() && self.id.get() == other.id.get()
+        let full = Nibble::low(15);
+        Codes { io: full, id: full }
     }
 }
 
 /// What the record holds for one address besides its place in the lists.
-#[derive(Clone, Copy)]
+#[derive(Clone, Copy, PartialEq, Eq)]
 pub struct Entry {
     pub cdi: Codes,
     pub pcd: Codes,

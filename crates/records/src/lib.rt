@@ -5,3 +5,4 @@ pub mod edit;
 pub mod entry;
 pub mod projection;
 pub mod record;
+pub mod rows;

@@ -1,8 +1,10 @@
 ghost use Rattle.std.specs.Prelude.{◌≡◌};
 ghost use Rattle.values.specs.Refusals.{outcome};
 ghost use Rattle.records.specs.Records.{rows};
-ghost use Rattle.records.specs.Edits.{edit_outcome, edit_after, projecting, unprojecting, taking_over};
+ghost use Rattle.records.specs.Edits.{change_of, edit_outcome, edit_after, projecting, unprojecting, taking_over};
+ghost use Rattle.records.specs.Editing.{EditedThrough};
 
+use super::edit::Edit;
 use super::record::{Mode, Record};
 use values::refusal::Refusal;
 
@@ -16,7 +18,7 @@ impl Drop for Projection<'_> {
     /// Puts the former mode back.
     fn drop(self)
         ensures mode { self.exit.0.now.mode ≡ self.entry.former }
-        ensures rows { rows self.exit.0.now ≡ rows self.entry.target.now }
+        ensures rows { rows self.exit.0.now.rows ≡ rows self.entry.target.now.rows }
     {
         self.target.mode = self.former;
         let Projection {
@@ -30,7 +32,7 @@ impl<'a> Projection<'a> {
     pub fn open(target: &'a mut Record) -> Projection<'a>
         ensures former { result.former ≡ target.old.mode }
         ensures mode { result.target.now.mode ≡ Mode.Configuration }
-        ensures rows { rows result.target.now ≡ rows target.old }
+        ensures rows { rows result.target.now.rows ≡ rows target.old.rows }
         ensures lender { result.target.ghost_name ≡ target.entry.ghost_name }
     {
         let former = target.mode;
@@ -41,33 +43,28 @@ impl<'a> Projection<'a> {
 
 impl Projection<'_> {
     pub fn project(&mut self, address: u32, io: u32, id: u32, parameter: u32) -> Result<(), Refusal>
-        ensures lender { self.new.target.ghost_name ≡ self.old.target.ghost_name }
-        ensures former { self.new.former ≡ self.old.former }
-        ensures mode { self.new.target.now.mode ≡ self.old.target.now.mode }
-        ensures result { outcome (λ u. u) result ≡ edit_outcome self.old.target.now.mode (projecting address io id parameter) }
-        ensures rows { rows self.new.target.now ≡ edit_after self.old.target.now.mode (projecting address io id parameter) (rows self.old.target.now) }
+        ensures { EditedThrough (projecting address io id parameter) self.old result self.new }
     {
         self.target.project(address, io, id, parameter)
     }
 
     pub fn unproject(&mut self, address: u32) -> Result<(), Refusal>
-        ensures lender { self.new.target.ghost_name ≡ self.old.target.ghost_name }
-        ensures former { self.new.former ≡ self.old.former }
-        ensures mode { self.new.target.now.mode ≡ self.old.target.now.mode }
-        ensures result { outcome (λ u. u) result ≡ edit_outcome self.old.target.now.mode (unprojecting address) }
-        ensures rows { rows self.new.target.now ≡ edit_after self.old.target.now.mode (unprojecting address) (rows self.old.target.now) }
+        ensures { EditedThrough (unprojecting address) self.old result self.new }
     {
         self.target.unproject(address)
     }
 
     pub fn take_over(&mut self) -> Result<(), Refusal>
-        ensures lender { self.new.target.ghost_name ≡ self.old.target.ghost_name }
-        ensures former { self.new.former ≡ self.old.former }
-        ensures mode { self.new.target.now.mode ≡ self.old.target.now.mode }
-        ensures result { outcome (λ u. u) result ≡ edit_outcome self.old.target.now.mode taking_over }
-        ensures rows { rows self.new.target.now ≡ edit_after self.old.target.now.mode taking_over (rows self.old.target.now) }
+        ensures { EditedThrough taking_over self.old result self.new }
     {
         self.target.take_over()
+    }
+
+    /// Makes an edit.
+    pub fn edit(&mut self, edit: Edit) -> Result<(), Refusal>
+        ensures { EditedThrough (change_of edit) self.old result self.new }
+    {
+        self.target.edit(edit)
     }
 }
 
@@ -81,7 +78,7 @@ pub fn project_once(
 ) -> Result<(), Refusal>
     ensures mode { target.new.mode ≡ target.old.mode }
     ensures result { outcome (λ u. u) result ≡ edit_outcome Mode.Configuration (projecting address io id parameter) }
-    ensures rows { rows target.new ≡ edit_after Mode.Configuration (projecting address io id parameter) (rows target.old) }
+    ensures rows { rows target.new.rows ≡ edit_after Mode.Configuration (projecting address io id parameter) (rows target.old.rows) }
 {
     let mut projection = Projection::open(target);
     projection.project(address, io, id, parameter)

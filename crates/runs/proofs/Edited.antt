@@ -1,13 +1,26 @@
 -- One edit more at the end of those made through a projection.
-use Rattle.std.proofs.Common.{◌≡◌, ℕ, ◌+◌, ◌<◌, cond, List, [], ◌∷◌, ◌++◌, map, length, get_or, take, sym, refl, ap, ◌∙◌, arith}
+use Rattle.std.proofs.Common.{◌≡◌, ℕ, ◌+◌, ◌<◌, ◌≤◌, Bool, true, false, cond, List, [], ◌∷◌, ◌++◌, map, length, get_or, take, Ok, Err, Result, sym, refl, ap, ◌∙◌, arith}
 use Rattle.std.proofs.lemmas.List.{take_more, map_push}
-use Rattle.values.specs.Refusals.{Outcome, accepts}
+use mir.Val.{bool_byte}
+use Rattle.std.specs.Result.{is_ok}
+use Rattle.values.specs.Refusals.{Outcome, outcome, accepts}
+use Rattle.values.specs.declared.refusal.Refusal.{Refusal}
 use Rattle.records.specs.Rows.{Row}
 use Rattle.records.specs.Edits.{Edit as Change, edit_outcome, edit_after}
 use Rattle.records.specs.declared.record.Mode.{Mode}
 use Rattle.promise.specs.Successions.{all_edited}
-use Rattle.runs.specs.Runs.{change_of, accepted_edits}
-use Rattle.runs.specs.declared.call.Edit.{Edit}
+use Rattle.runs.specs.Runs.{accepted_edits}
+use Rattle.records.specs.Edits.{change_of}
+use Rattle.records.specs.declared.edit.Edit.{Edit}
+
+-- one for an edit that was accepted, as the program counts it
+pub counted : (r : Result (Unit {0}) Refusal) → bool_byte (is_ok r) ≡ cond (accepts (outcome {A = Unit {0}} {B = Unit {0}} (λ u. u) r)) 1 0
+counted (Ok u) = refl
+counted (Err e) = refl
+
+pub at_most_one : (b : Bool) → bool_byte b ≤ 1
+at_most_one true = omega arith
+at_most_one false = omega arith
 
 module _ (mode : Mode) where
   all_edited_push : (es : List Change) (e : Change) (rs : List Row) → all_edited mode (es ++ e ∷ []) rs ≡ edit_after mode e (all_edited mode es rs)

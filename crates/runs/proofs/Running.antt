@@ -1,20 +1,16 @@
 -- A run, call by call: what was run so far, and one call more.
-use Rattle.std.proofs.Common.{◌≡◌, ℕ, ◌+◌, ◌<◌, Bool, false, List, [], ◌∷◌, ◌++◌, map, length, get_or, take, drop, set, sym, refl, ap, ◌∙◌, subst, arith}
+use Rattle.std.proofs.Common.{◌≡◌, ℕ, ◌+◌, ◌<◌, List, [], ◌∷◌, ◌++◌, map, length, get_or, take, drop, set, sym, refl, ap, ◌∙◌, subst, arith}
 use Rattle.std.proofs.lemmas.List.{length-set, take_more, take_more_set, drop-drop, drop-set-lt, map_push}
-use Rattle.records.specs.Rows.{Row, new_rows}
-use Rattle.records.specs.declared.record.Mode.{Mode}
-use Rattle.records.specs.declared.record.Mode.TheVariants.{Configuration}
-use Rattle.search.specs.Steps.{Stage, seek}
+use Rattle.queues.specs.Fifo.{held, room}
 use Rattle.orders.specs.Orders.{ordered, told}
-use Rattle.orders.specs.declared.order.Answer.{Answer}
-use Rattle.orders.specs.declared.order.Order.{Order}
-use Rattle.master.specs.Cycles.{Card, Meaning, new_control, new_card}
-use Rattle.master.specs.declared.master.Phase.{Phase}
-use Rattle.master.specs.declared.master.Phase.TheVariants.{Offline}
+use Rattle.orders.specs.Queues.{waiting, uncollected}
+use Rattle.orders.specs.declared.pair.Queues.{Queues}
+use Rattle.master.specs.Cycles.{Card, Meaning, control_of, card_of, new_control, new_card}
+use Rattle.master.specs.declared.master.Master.{Master}
 use Rattle.promise.specs.Successions.{Turn, turned}
 use Rattle.runs.specs.Runs.{turn_of, Came, came, comes_to, line_left, Performed, Ran, nothing, one, Run}
 use Rattle.runs.specs.declared.call.Call.{Call}
-use Rattle.runs.specs.declared.call.Outcome.{Outcome}
+use Rattle.runs.specs.Runs.{Logged}
 use Rattle.promise.proofs.Promise.{promised}
 
 module _ {P : Type 0} (alters : P → Meaning → Meaning → P → Type 0) where
@@ -23,8 +19,8 @@ module _ {P : Type 0} (alters : P → Meaning → Meaning → P → Type 0) wher
   ran_push x (one first rest) act = one first (ran_push x rest act)
 
   -- the calls of the script before place i were made, from plant h, line w and card c, over a log
-  module _ (script : List Call) (empty : List Outcome) (h : P) (w : Meaning) (c : Card) where
-    pub record SoFar (i : ℕ) (log : List Outcome) (k : P) (v : Meaning) (d : Card) : Type 0 where
+  module _ (script : List Call) (empty : List Logged) (h : P) (w : Meaning) (c : Card) where
+    pub record SoFar (i : ℕ) (log : List Logged) (k : P) (v : Meaning) (d : Card) : Type 0 where
       pub sized : length log ≡ length empty
       pub rest : drop i log ≡ drop i empty
       pub turns : List Turn
@@ -33,7 +29,7 @@ module _ {P : Type 0} (alters : P → Meaning → Meaning → P → Type 0) wher
     pub starts : (d : Card) → d ≡ c → SoFar 0 empty h w d
     starts d is = record { sized = refl; rest = refl; turns = []; ran = subst (λ (z : Card). Ran alters [] [] [] h w c h w z) (sym is) nothing }
 
-    pub goes_on : (i : ℕ) (log : List Outcome) (k k' : P) (v u v' : Meaning) (d d' : Card) (x : Call) (y : Outcome) → i < length script → i < length empty → SoFar i log k v d → alters k v u k' → Performed (get_or script i x) u d (came y) v' d' → SoFar (i + 1) (set log i y) k' v' d'
+    pub goes_on : (i : ℕ) (log : List Logged) (k k' : P) (v u v' : Meaning) (d d' : Card) (x : Call) (y : Logged) → i < length script → i < length empty → SoFar i log k v d → alters k v u k' → Performed (get_or script i x) u d (came y) v' d' → SoFar (i + 1) (set log i y) k' v' d'
     goes_on i log k k' v u v' d d' x y inside free so_far act performed =
         let z : Call = get_or script i x in
         let fits : i < length log = omega (arith, so_far.sized) in
@@ -58,12 +54,14 @@ module _ {P : Type 0} (alters : P → Meaning → Meaning → P → Type 0) wher
             (subst (λ (a : Meaning). Ran alters xs' ts ys' h w c k' a e) (sym r) (subst (λ (a : Card). Ran alters xs' ts ys' h w c k' l' a) (sym s) ran)))
 
 -- a new master with two empty queues is a new card
-pub new_is : (mode : Mode) (offline fail : Bool) (phase : Phase) (step : Stage) (rs : List Row) (os : List Order) (xs : List Answer) (order_room answer_room : ℕ) → mode ≡ Configuration → offline ≡ false → fail ≡ false → phase ≡ Offline → step ≡ seek 0 → rs ≡ new_rows → os ≡ [] → xs ≡ [] → record { control = record { mode = mode; offline = offline; power_fail = fail; phase = phase; step = step; rows = rs }; orders = map ordered os; answers = map told xs; order_room = order_room; answer_room = answer_room } ≡ new_card order_room answer_room
-unfolding new_control
-new_is mode offline fail phase step rs os xs order_room answer_room e₁ e₂ e₃ e₄ e₅ e₆ e₇ e₈ = cc
+pub new_is : (m : Master) (q : Queues) → control_of m ≡ new_control → held q.orders ≡ [] → held q.answers ≡ [] → card_of m q ≡ new_card (room q.orders) (room q.answers)
+new_is m q control no_order no_answer =
+    let orders : waiting q ≡ [] = ap (map ordered) no_order in
+    let answers : uncollected q ≡ [] = ap (map told) no_answer in
+    cc
 
 -- what was run so far is the whole run
-pub whole_run : {P : Type 0} (alters : P → Meaning → Meaning → P → Type 0) (script : List Call) (empty log : List Outcome) (h k : P) (w v : Meaning) (d : Card) (i n order_room answer_room orders answers : ℕ) → i ≡ n → order_room ≡ orders → answer_room ≡ answers → SoFar alters script empty h w (new_card order_room answer_room) i log k v d → Run alters orders answers (take n script) (map came (take n log)) h w k v
+pub whole_run : {P : Type 0} (alters : P → Meaning → Meaning → P → Type 0) (script : List Call) (empty log : List Logged) (h k : P) (w v : Meaning) (d : Card) (i n order_room answer_room orders answers : ℕ) → i ≡ n → order_room ≡ orders → answer_room ≡ answers → SoFar alters script empty h w (new_card order_room answer_room) i log k v d → Run alters orders answers (take n script) (map came (take n log)) h w k v
 whole_run alters script empty log h k w v d i n order_room answer_room orders answers e f j so_far =
     record {
       succession = so_far.turns;

@@ -1,11 +1,11 @@
 -- A run: a script of calls on a new master with two new queues, on a line that the plant may alter before each call.
 -- What each call comes to is what the rules say of it. What the plant does is its own affair: the run says that it acted once before each call,
 -- and that the call met the line as the plant left it. A run that skips the plant, or does not look at the line, cannot be shown.
-use Rattle.std.specs.Prelude.{◌≡◌, ℕ, ◌+◌, Bool, cond, List, [], ◌∷◌, map, length}
+use Rattle.std.specs.Prelude.{◌≡◌, ℕ, ◌+◌, Bool, cond, List, [], ◌∷◌, map, length, Ok, Err, Result}
 use Rattle.values.specs.Refusals.{Outcome, gives, refuses_for, numbered, caused, accepts}
 use Rattle.values.specs.Tables.{table}
 use Rattle.lists.specs.Members.{has}
-use Rattle.records.specs.Edits.{Edit as Change, projecting, unprojecting, taking_over, edit_outcome}
+use Rattle.records.specs.Edits.{Edit as Change, change_of, edit_outcome}
 use Rattle.records.specs.Modes.{in_configuration, mode_outcome}
 use Rattle.records.specs.Rows.{row_at, outputs_outcome, inputs_outcome, config_ok}
 use Rattle.records.specs.declared.record.Mode.{Mode}
@@ -20,17 +20,11 @@ use Rattle.promise.specs.Successions.{Call as Other, parameter, reset, order_fro
 use Rattle.promise.specs.Promise.{Promise}
 use Rattle.runs.specs.declared.call.Call.{Call}
 use Rattle.runs.specs.declared.call.Call.TheVariants.{Cycle, PlaceParameter, PlaceReset, Collect, WriteOutputs, ReadInputs, ReadLists, SetMode, SetOffline, Edit as EditOnce, Project as EditAll}
-use Rattle.runs.specs.declared.call.Edit.{Edit}
-use Rattle.runs.specs.declared.call.Edit.TheVariants.{Project, Unproject, TakeOver}
-use Rattle.runs.specs.declared.call.Outcome.{Outcome as Logged}
-use Rattle.runs.specs.declared.call.Outcome.TheVariants.{Done, Refused, Ran as RanCycle, Collected, Inputs, Lists, Projected}
+use Rattle.runs.specs.declared.call.Given.{Given}
+use Rattle.runs.specs.declared.call.Given.TheVariants.{Nothing, Ran as RanCycle, Collected, Inputs, Lists, Projected}
+use Rattle.values.specs.declared.refusal.Refusal.{Refusal}
 
 -- The calls of a script
-
-abbrev pub change_of : Edit → Change
-change_of (Project a io id pp) = projecting a io id pp
-change_of (Unproject a) = unprojecting a
-change_of TakeOver = taking_over
 
 -- a call, with the line as it met it
 abbrev pub turn_of : Meaning → Call → Turn
@@ -98,14 +92,20 @@ pub data Came : Type 0 where
   projected : ℕ → Came
 
 -- what the program logs
+abbrev pub Logged : Type 0
+Logged = Result Given Refusal
+
+abbrev pub gave : Given → Came
+gave Nothing = done
+gave (RanCycle r) = ran r.phase r.requests
+gave (Collected x) = collected (told x)
+gave (Inputs n) = inputs n.value
+gave (Lists r) = lists (shown r)
+gave (Projected n) = projected n
+
 abbrev pub came : Logged → Came
-came Done = done
-came (Refused e) = refused (numbered e) (caused e)
-came (RanCycle r) = ran r.phase r.requests
-came (Collected x) = collected (told x)
-came (Inputs n) = inputs n.value
-came (Lists r) = lists (shown r)
-came (Projected n) = projected n
+came (Ok x) = gave x
+came (Err e) = refused (numbered e) (caused e)
 
 -- what the rules say
 

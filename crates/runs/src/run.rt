@@ -8,7 +8,7 @@ use super::plant::Plant;
 use lines::line::Line;
 use master::master::Master;
 use orders::order::{Answer, Order};
-use queues::queue::Queue;
+use orders::pair::Queues;
 
 /// Makes the calls of a script, in their order, on a new master with a new queue over each of the two slices. Before each call the plant may
 /// alter the line. What each call came to is logged; a call for which the log has no place is not made. How many were made.
@@ -25,12 +25,12 @@ pub fn run<L: Line, P: Plant<L>>(
     ensures rest { drop result log.new ≡ drop result log.old }
 {
     let mut master = Master::new();
-    let mut orders = Queue::new(order_slots);
-    let mut answers = Queue::new(answer_slots);
+    let mut queues = Queues::over(order_slots, answer_slots);
     let made = script.len().min(log.len());
-    for i in 0..made {
+    // The log by index: of a slice that is written through an adapter of `iter_mut` a proof knows no element.
+    for (i, call) in script[..made].iter().enumerate() {
         plant.act(line);
-        log[i] = perform(script[i], line, &mut master, &mut orders, &mut answers);
+        log[i] = perform(*call, line, &mut master, &mut queues);
     }
     made
 }

@@ -1,30 +1,16 @@
 -- What the search does: at the address that its step takes it sends at most one request, and by the reply it changes the row there and
 -- goes on to the next step. An address that does not give its codes leaves LDS, and its CDI becomes 15/15.
-use Rattle.std.specs.Prelude.{◌≡◌, ℕ, Bool, false, cond, List, [], ◌∷◌}
+use Rattle.std.specs.Prelude.{◌≡◌, ℕ, Bool, List, [], ◌∷◌}
 use Rattle.telegrams.specs.Requests.{Heard, nibble, silence, disturbed, read_io, read_id}
 use Rattle.stations.specs.Stations.{Place, after, reply}
 use Rattle.lines.specs.Lines.{at}
-use Rattle.records.specs.Rows.{Row, row_at, no_codes}
+use Rattle.records.specs.Rows.{Row, row_at}
 use Rattle.records.specs.declared.record.Mode.{Mode}
-use Rattle.phases.specs.Activation.{admissible, enter_visit}
+use Rattle.phases.specs.Activation.{admissible, admit_visit}
 use Rattle.phases.specs.Detection.{found}
-use Rattle.phases.specs.Visits.{Visit, left_alone, Visited}
+use Rattle.phases.specs.Exchange.{lost}
+use Rattle.phases.specs.Visits.{Visit, Visited}
 use Rattle.search.specs.Steps.{Stage, seek, name, enter, pick, step_after}
-
-abbrev pub lost : Row → Row
-lost r =
-    record {
-      detected = false;
-      active = false;
-      projected = r.projected;
-      cdi = no_codes;
-      pcd = r.pcd;
-      pi = r.pi;
-      pp = r.pp;
-      idi = r.idi;
-      odi = r.odi;
-      misses = r.misses;
-    }
 
 -- this is heard of the I/O code
 abbrev pub sought : Row → Heard → Row
@@ -38,10 +24,16 @@ called c r (nibble d) = found (record { io = c; id = d }) r
 called c r silence = lost r
 called c r disturbed = lost r
 
+abbrev pub seek_visit : Bool → Row → Place → Visit
+seek_visit power r p = record { row = sought r (reply power p read_io); place = after power p read_io; sent = read_io ∷ [] }
+
+abbrev pub naming_visit : Bool → ℕ → Row → Place → Visit
+naming_visit power c r p = record { row = called c r (reply power p read_id); place = after power p read_id; sent = read_id ∷ [] }
+
 abbrev pub search_visit : Mode → Bool → Stage → ℕ → Row → Place → Visit
-search_visit mode power (seek a) b r p = record { row = sought r (reply power p read_io); place = after power p read_io; sent = read_io ∷ [] }
-search_visit mode power (name a c) b r p = record { row = called c r (reply power p read_id); place = after power p read_id; sent = read_id ∷ [] }
-search_visit mode power (enter a) b r p = cond (admissible mode b r) (enter_visit power r p) (left_alone r p)
+search_visit mode power (seek a) b r p = seek_visit power r p
+search_visit mode power (name a c) b r p = naming_visit power c r p
+search_visit mode power (enter a) b r p = admit_visit mode power b r p
 
 -- the address that a step takes
 abbrev pub taken_by : List Row → Stage → ℕ

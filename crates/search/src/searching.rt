@@ -4,54 +4,50 @@ ghost use Rattle.telegrams.specs.Requests.{heard};
 ghost use Rattle.lines.specs.Lines.{at};
 ghost use Rattle.records.specs.Rows.{row_at};
 ghost use Rattle.records.specs.Records.{rows};
-ghost use Rattle.phases.specs.Activation.{admissible};
+ghost use Rattle.phases.specs.Exchange.{lost};
 ghost use Rattle.phases.specs.Visits.{Visited};
-ghost use Rattle.search.specs.Steps.{seek, name, enter, stage, step_after};
-ghost use Rattle.search.specs.Searches.{lost, search_visit, deciding, Searched};
+ghost use Rattle.search.specs.Steps.{seek, name, stage};
+ghost use Rattle.search.specs.Searches.{seek_visit, naming_visit, deciding, Searched};
 
 use super::step::{Step, pick};
 use lines::line::Line;
-use phases::activation::{enter, is_admissible};
+use phases::activation::{enter_admissible, is_admissible};
 use records::entry::{Codes, Entry};
-use records::record::Record;
+use records::record::Mode;
+use records::rows::Rows;
 use telegrams::request::{Reply, Request};
 use values::address::Address;
-use values::module_address::ModuleAddress;
 use values::nibble::Nibble;
 
 /// An address that did not give its codes leaves LDS.
-fn lose(target: &mut Record, address: Address)
-    ensures mode { target.new.mode ≡ target.old.mode }
-    ensures rows { rows target.new ≡ slice_set (rows target.old) address.value (lost (row_at address.value (rows target.old))) }
+fn lose(target: &mut Rows, address: Address)
+    ensures { rows target.new ≡ slice_set (rows target.old) address.value (lost (row_at address.value (rows target.old))) }
 {
     let entry = target.entry(address);
-    let full = Nibble::low(15);
-    let cdi = Codes { io: full, id: full };
+    let cdi = Codes::none();
     target.forget(address, Entry { cdi, ..entry });
 }
 
 /// Reads the I/O code at an address.
-fn seek_at<L: Line>(target: &mut Record, line: &mut L, address: Address) -> Reply
-    ensures mode { target.new.mode ≡ target.old.mode }
+fn seek_at<L: Line>(target: &mut Rows, line: &mut L, address: Address) -> Reply
     ensures power { L.power line.new ≡ L.power line.old }
     ensures reply { heard result ≡ deciding (L.power line.old) (seek address.value) (at (table (L.stations line.old)) address.value) }
-    ensures visited { Visited (search_visit target.old.mode (L.power line.old) (seek address.value) address.value) address.value (rows target.old) (rows target.new) (table (L.stations line.old)) (table (L.stations line.new)) 1 }
+    ensures visited { Visited (seek_visit (L.power line.old)) address.value (rows target.old) (rows target.new) (table (L.stations line.old)) (table (L.stations line.new)) 1 }
 {
     let reply = line.carry(Request::ReadIo(address));
     match reply {
         Reply::Answer(_) => {}
-        Reply::Silence => lose(target, address),
-        Reply::Disturbed => lose(target, address),
+        Reply::Silence | Reply::Disturbed => lose(target, address),
     }
     reply
 }
 
+// Apart from `seek_at`, since the row keeps nothing of an I/O code that came, and both codes here.
 /// Reads the ID code at an address that gave its I/O code.
-fn name_at<L: Line>(target: &mut Record, line: &mut L, address: Address, io: Nibble) -> Reply
-    ensures mode { target.new.mode ≡ target.old.mode }
+fn name_at<L: Line>(target: &mut Rows, line: &mut L, address: Address, io: Nibble) -> Reply
     ensures power { L.power line.new ≡ L.power line.old }
     ensures reply { heard result ≡ deciding (L.power line.old) (name address.value io.value) (at (table (L.stations line.old)) address.value) }
-    ensures visited { Visited (search_visit target.old.mode (L.power line.old) (name address.value io.value) address.value) address.value (rows target.old) (rows target.new) (table (L.stations line.old)) (table (L.stations line.new)) 1 }
+    ensures visited { Visited (naming_visit (L.power line.old) io.value) address.value (rows target.old) (rows target.new) (table (L.stations line.old)) (table (L.stations line.new)) 1 }
 {
     let reply = line.carry(Request::ReadId(address));
     match reply {
@@ -60,54 +56,25 @@ fn name_at<L: Line>(target: &mut Record, line: &mut L, address: Address, io: Nib
             let cdi = Codes { io, id };
             target.detect(address, Entry { cdi, ..entry });
         }
-        Reply::Silence => lose(target, address),
-        Reply::Disturbed => lose(target, address),
+        Reply::Silence | Reply::Disturbed => lose(target, address),
     }
     reply
 }
 
-/// Enters an address that is still admissible; how many requests were sent.
-fn enter_at<L: Line>(target: &mut Record, line: &mut L, address: Address) -> u32
-    ensures mode { target.new.mode ≡ target.old.mode }
-    ensures power { L.power line.new ≡ L.power line.old }
-    ensures few { result ≤ 1 }
-    ensures visited { Visited (search_visit target.old.mode (L.power line.old) (enter address.value) address.value) address.value (rows target.old) (rows target.new) (table (L.stations line.old)) (table (L.stations line.new)) result }
-{
-    if !is_admissible(target, address) {
-        return 0;
-    }
-    let at = u32::from(address.get()).saturating_sub(1);
-    enter(target, line, ModuleAddress::nth(at));
-    1
-}
-
-/// The step after this one, by the reply and by whether the address is admissible with the codes that it now has.
-fn next(target: &Record, step: Step, address: Address, reply: Reply) -> Step
-    ensures { stage result ≡ step_after (stage step) address.value (heard reply) (admissible target.now.mode address.value (row_at address.value (rows target.now))) }
-{
-    step.after(address, reply, is_admissible(target, address))
-}
-
 /// One step of the search: the next step, and how many requests were sent.
-pub fn search<L: Line>(target: &mut Record, line: &mut L, step: Step) -> (Step, u32)
-    ensures mode { target.new.mode ≡ target.old.mode }
+pub fn search<L: Line>(mode: Mode, target: &mut Rows, line: &mut L, step: Step) -> (Step, u32)
     ensures power { L.power line.new ≡ L.power line.old }
     ensures few { result.1 ≤ 1 }
-    ensures searched { Searched target.old.mode (L.power line.old) (stage step) (stage result.0) (rows target.old) (rows target.new) (table (L.stations line.old)) (table (L.stations line.new)) result.1 }
+    ensures searched { Searched mode (L.power line.old) (stage step) (stage result.0) (rows target.old) (rows target.new) (table (L.stations line.old)) (table (L.stations line.new)) result.1 }
 {
-    match step {
+    let (at, reply, sent) = match step {
         Step::Seek(from) => {
             let at = pick(target, from);
-            let reply = seek_at(target, line, at);
-            (next(target, step, at, reply), 1)
+            (at, seek_at(target, line, at), 1)
         }
-        Step::Name(at, io) => {
-            let reply = name_at(target, line, at, io);
-            (next(target, step, at, reply), 1)
-        }
-        Step::Enter(at) => {
-            let sent = enter_at(target, line, at);
-            (next(target, step, at, Reply::Silence), sent)
-        }
-    }
+        Step::Name(at, io) => (at, name_at(target, line, at, io), 1),
+        Step::Enter(at) => (at, Reply::Silence, enter_admissible(mode, target, line, at)),
+    };
+    let admissible = is_admissible(mode, target, at);
+    (step.after(at, reply, admissible), sent)
 }

@@ -3,13 +3,13 @@ ghost use Rattle.telegrams.specs.Requests.{heard};
 ghost use Rattle.records.specs.Records.{rows};
 ghost use Rattle.search.specs.Steps.{stage, following, First, pick, step_after};
 
-use records::record::Record;
+use records::rows::Rows;
 use telegrams::request::Reply;
 use values::address::Address;
 use values::nibble::Nibble;
 
 /// Where the search for modules stands: seeking from an address on, naming one that gave its I/O code, or entering one.
-#[derive(Clone, Copy)]
+#[derive(Clone, Copy, PartialEq, Eq)]
 pub enum Step {
     Seek(Address),
     Name(Address, Nibble),
@@ -20,27 +20,18 @@ pub enum Step {
 fn following(address: Address) -> Address
     ensures { result.value ≡ following address.value }
 {
-    let b = u32::from(address.get());
-    if b < 31 {
-        Address::low(b + 1)
-    } else {
-        Address::low(0)
-    }
+    Address::low(u32::from(address) + 1)
 }
 
 /// The first address not in LAS from this one upward, 0 following 31.
-pub fn pick(target: &Record, from: Address) -> Address
+pub fn pick(target: &Rows, from: Address) -> Address
     ensures is { result.value ≡ pick (rows target.now) from.value }
     ensures first { First (rows target.now) from.value result.value }
 {
-    let mut at = from;
-    for passed in 0..32u32 {
-        if !target.is_active(at) {
-            return at;
-        }
-        at = following(at);
-    }
-    at
+    (0..32)
+        .map(|passed| Address::low(u32::from(from) + passed))
+        .find(|at| !target.is_active(*at))
+        .unwrap_or(from)
 }
 
 impl Step {

@@ -5,7 +5,7 @@
 use Rattle.std.specs.Prelude.{ℕ, ◌+◌, ◌*◌, ◌/◌, ◌%◌, ◌^◌, Bool, true, false, cond, ◌&&◌, ◌||◌, List, [], ◌∷◌, ◌++◌, map, length, take, ◌==◌, slice_index}
 use Rattle.std.specs.List.{range_with_len}
 use Rattle.values.specs.Refusals.{Outcome, gives, refuses}
-use Rattle.values.specs.Tests.{every}
+use Rattle.std.specs.List.{list_all}
 use Rattle.stations.specs.Stations.{State, Place, vacant, occupied}
 
 -- A station's word, read
@@ -51,7 +51,7 @@ abbrev pub good_power : ℕ → Bool
 good_power w = w == power_word_lem true || w == power_word_lem false
 
 abbrev pub good_image : List ℕ → Bool
-good_image ws = length ws == 33 && (every good_station (take 32 ws) && good_power (slice_index ws 32))
+good_image ws = length ws == 33 && (list_all good_station (take 32 ws) && good_power (slice_index ws 32))
 
 -- testing words: anything but a good image is refused
 abbrev pub tested : List ℕ → Outcome (Unit {0})

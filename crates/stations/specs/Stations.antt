@@ -33,7 +33,7 @@ state_of m =
       parameter = m.parameter.value;
       direction = m.direction.value;
       enabled = m.enabled;
-      disturbance = m.disturbance.count;
+      disturbance = m.disturbance.value;
     }
 
 abbrev pub held : Option Module → Place
@@ -46,20 +46,16 @@ place_of s = held s.«module»
 -- Changes to a module
 
 abbrev pub with_disturbance : ℕ → State → State
-with_disturbance d x =
-    record { io = x.io; id = x.id; inputs = x.inputs; outputs = x.outputs; parameter = x.parameter; direction = x.direction; enabled = x.enabled; disturbance = d }
+with_disturbance d x = record x { disturbance = d }
 
 abbrev pub with_outputs : ℕ → State → State
-with_outputs n x =
-    record { io = x.io; id = x.id; inputs = x.inputs; outputs = n; parameter = x.parameter; direction = x.direction; enabled = x.enabled; disturbance = x.disturbance }
+with_outputs n x = record x { outputs = n }
 
 abbrev pub with_parameter : ℕ → State → State
-with_parameter n x =
-    record { io = x.io; id = x.id; inputs = x.inputs; outputs = x.outputs; parameter = n; direction = x.direction; enabled = true; disturbance = x.disturbance }
+with_parameter n x = record x { parameter = n; enabled = true }
 
 abbrev pub after_reset : State → State
-after_reset x =
-    record { io = x.io; id = x.id; inputs = x.inputs; outputs = 15; parameter = 15; direction = x.direction; enabled = false; disturbance = x.disturbance }
+after_reset x = record x { outputs = 15; parameter = 15; enabled = false }
 
 -- The rules of an undisturbed module with power
 

@@ -3,6 +3,7 @@ ghost use Rattle.values.specs.Refusals.{outcome};
 ghost use Rattle.stations.specs.Images.{word_at, words_in_lem, image_from};
 
 use super::image::IMAGE_WORDS;
+use std::array;
 use values::refusal::Refusal;
 
 /// How many bytes an image has.
@@ -21,11 +22,7 @@ fn words_in(bytes: &[u8]) -> [u32; IMAGE_WORDS]
     requires { length bytes.now ≡ 132 }
     ensures { result ≡ words_in_lem bytes.now }
 {
-    let mut words = [0; IMAGE_WORDS];
-    for k in 0..IMAGE_WORDS {
-        words[k] = word_at(bytes, k);
-    }
-    words
+    array::from_fn(|k| word_at(bytes, k))
 }
 
 /// The words of an image from its bytes, each word's high byte first.

@@ -1,6 +1,6 @@
 ghost use Rattle.std.specs.Prelude.{◌≡◌, true, length};
 ghost use Rattle.values.specs.Refusals.{outcome};
-ghost use Rattle.values.specs.Tests.{every};
+ghost use Rattle.std.specs.List.{list_all};
 ghost use Rattle.stations.specs.Stations.{place_of};
 ghost use Rattle.stations.specs.Images.{place_in, word_of, power_word_lem, good_station, good_power, good_image, tested};
 
@@ -47,14 +47,14 @@ impl Station {
             None => 0,
             Some(m) => {
                 (1 << 30)
-                    + (u32::from(m.io_code.get()) << 24)
-                    + (u32::from(m.id_code.get()) << 20)
-                    + (u32::from(m.inputs.get()) << 16)
-                    + (u32::from(m.outputs.get()) << 12)
-                    + (u32::from(m.parameter.get()) << 8)
+                    + (u32::from(m.io_code) << 24)
+                    + (u32::from(m.id_code) << 20)
+                    + (u32::from(m.inputs) << 16)
+                    + (u32::from(m.outputs) << 12)
+                    + (u32::from(m.parameter) << 8)
                     + (u32::from(m.enabled) << 7)
-                    + (u32::from(m.disturbance.get()) << 4)
-                    + u32::from(m.direction.get())
+                    + (u32::from(m.disturbance) << 4)
+                    + u32::from(m.direction)
             }
         }
     }
@@ -67,14 +67,9 @@ fn is_station_word(word: u32) -> bool
 }
 
 fn are_station_words(words: &[u32]) -> bool
-    ensures { result ≡ every good_station words.now }
+    ensures { result ≡ list_all good_station words.now }
 {
-    for word in words {
-        if !is_station_word(*word) {
-            return false;
-        }
-    }
-    true
+    words.iter().all(|&word| is_station_word(word))
 }
 
 /// The word that says whether power is up.

@@ -1,32 +1,10 @@
-ghost use Rattle.std.specs.Prelude.{◌≡◌, ◌%◌, ◌<◌};
-
 use values::nibble::Nibble;
+use values::up_to::UpTo;
 
 /// How many of the next requests to a module are disturbed, 0 to 7.
-#[derive(Clone, Copy)]
-pub struct Disturbance {
-    count: u8,
-    ghost ok: { count < 8 },
-}
+pub type Disturbance = UpTo<7>;
 
-impl Disturbance {
-    /// The low three bits.
-    pub fn low(n: u32) -> Disturbance
-        ensures { result.count ≡ n % 8 }
-    {
-        Disturbance {
-            count: (n % 8) as u8,
-        }
-    }
-
-    pub fn get(self) -> u8
-        ensures { result ≡ self.count }
-    {
-        self.count
-    }
-}
-
-#[derive(Clone, Copy)]
+#[derive(Clone, Copy, PartialEq, Eq)]
 pub struct Module {
     pub io_code: Nibble,
     pub id_code: Nibble,
@@ -41,7 +19,7 @@ pub struct Module {
 }
 
 /// A place for one address: vacant, or holding a module.
-#[derive(Clone, Copy)]
+#[derive(Clone, Copy, PartialEq, Eq)]
 pub struct Station {
     pub module: Option<Module>,
 }

@@ -11,11 +11,8 @@ impl Module {
     fn ports(&self, outputs: Nibble) -> Nibble
         ensures { result.value ≡ port_bits outputs.value (state_of self.now) }
     {
-        let direction = u32::from(self.direction.get());
-        Nibble::low(
-            (u32::from(outputs.get()) & direction)
-                | (u32::from(self.inputs.get()) & (15 - direction)),
-        )
+        let direction = u32::from(self.direction);
+        Nibble::low((u32::from(outputs) & direction) | (u32::from(self.inputs) & (15 - direction)))
     }
 
     /// An undisturbed module with power obeys a request.
@@ -54,20 +51,15 @@ impl Station {
         ensures after { place_of self.new ≡ after true (place_of self.old) (asked request) }
         ensures reply { heard result ≡ reply true (place_of self.old) (asked request) }
     {
-        match self.module {
-            None => Reply::Silence,
-            Some(held) => {
-                let mut module = held;
-                let count = module.disturbance.get();
-                let reply = if count > 0 {
-                    module.disturbance = Disturbance::low(u32::from(count) - 1);
-                    Reply::Disturbed
-                } else {
-                    module.obey(request)
-                };
-                self.module = Some(module);
-                reply
+        let Some(module) = &mut self.module else {
+            return Reply::Silence;
+        };
+        match module.disturbance.get().checked_sub(1) {
+            Some(left) => {
+                module.disturbance = Disturbance::low(u32::from(left));
+                Reply::Disturbed
             }
+            None => module.obey(request),
         }
     }
 }

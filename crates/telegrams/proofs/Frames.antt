@@ -1,10 +1,10 @@
 -- What a frame says of its payload: it gives it back, and it is found right.
-use Rattle.std.proofs.Common.{◌≡◌, ℕ, ◌+◌, ◌*◌, ◌/◌, ◌%◌, ◌<◌, ◌≤◌, false, sym, ap, ◌∙◌, arith}
+use Rattle.std.proofs.Common.{◌≡◌, ℕ, ◌+◌, ◌*◌, ◌/◌, ◌%◌, ◌<◌, ◌≤◌, sym, ap, ◌∙◌, arith}
 use lib.Count.{ones, ones_step}
 use Rattle.std.proofs.lemmas.Bool.Decides.{nat_tests}
 use Rattle.values.specs.Refusals.{cause_number}
 use Rattle.telegrams.specs.Requests.{Asking, Lawful, data_exchange, write_parameter, read_io, read_id, resetting}
-use Rattle.telegrams.specs.Words.{framed, frame_cause, payload_of, no_request, or_else}
+use Rattle.telegrams.specs.Words.{framed, frame_cause, payload_of, or_else}
 use Rattle.values.specs.declared.refusal.Cause.{Cause}
 use Rattle.values.specs.declared.refusal.Cause.TheVariants.{TooWide, StartBit, EndBit, Parity, NoRequest}
 
@@ -23,14 +23,6 @@ frame_right start p h =
     let e = ap ones (payload_back p) in
     let even = ones_halved (framed p) in
     grind (arith, nat_tests)
-
--- a request's payload is one that is taken
-pub payload_taken : (a : ℕ) (q : Asking) → Lawful (record { to = a; asking = q }) → no_request (payload_of (record { to = a; asking = q })) ≡ false
-payload_taken a (data_exchange n) h = grind (arith, nat_tests)
-payload_taken a (write_parameter n) h = grind (arith, nat_tests)
-payload_taken a read_io h = grind (arith, nat_tests)
-payload_taken a read_id h = grind (arith, nat_tests)
-payload_taken a resetting h = grind (arith, nat_tests)
 
 pub cause_counts : (c : Cause) → 0 < cause_number c
 cause_counts TooWide = omega arith

@@ -7,7 +7,7 @@
 use Rattle.std.specs.Prelude.{◌≡◌, ℕ, ◌+◌, ◌*◌, ◌/◌, ◌%◌, ◌<◌, Bool, true, false, cond, not, ◌||◌, Ok, Err, Result, ◌==◌, count_ones, nat_le, nat_lt}
 use Rattle.values.specs.Refusals.{numbered, caused, cause_number}
 use Rattle.telegrams.specs.Requests.{Asking, Sent, Lawful, sent, data_exchange, write_parameter, read_io, read_id, resetting}
-use Rattle.values.specs.declared.nibble.Nibble.{Nibble}
+use Rattle.values.specs.Ranges.{Nibble}
 use Rattle.values.specs.declared.refusal.Cause.{Cause}
 use Rattle.values.specs.declared.refusal.Refusal.{Refusal}
 use Rattle.telegrams.specs.declared.request.Request.{Request}

@@ -19,13 +19,13 @@ fn payload(request: Request) -> u32
     ensures fits { result < 2048 }
 {
     let (control, information) = match request {
-        Request::DataExchange(_, n) => (0, n.get()),
-        Request::WriteParameter(_, n) => (0, 16 + n.get()),
+        Request::DataExchange(_, n) => (0, u32::from(n)),
+        Request::WriteParameter(_, n) => (0, 16 + u32::from(n)),
         Request::ReadIo(_) => (1, 16),
         Request::ReadId(_) => (1, 17),
         Request::Reset(_) => (1, 28),
     };
-    1024 * control + 32 * u32::from(request.address()) + u32::from(information)
+    1024 * control + 32 * u32::from(request.address()) + information
 }
 
 /// The word of 14 bits that carries a request.
@@ -39,7 +39,7 @@ pub fn encode_request(request: Request) -> u32
 pub fn encode_reply(nibble: Nibble) -> u32
     ensures { OnlyReplyOf nibble.value result }
 {
-    frame(u32::from(nibble.get()))
+    frame(u32::from(nibble))
 }
 
 // What the start bit counts in a request and in a reply.
@@ -76,7 +76,7 @@ fn request_in(payload: u32) -> Result<Request, Refusal>
         (1, a, 16) => Request::read_io(a),
         (1, a, 17) => Request::read_id(a),
         (1, a, 28) => Request::reset(a),
-        _ => Err(Refusal::BadTelegram(Cause::NoRequest)),
+        _ => Err(Refusal::from(Cause::NoRequest)),
     }
 }
 
@@ -84,18 +84,13 @@ fn request_in(payload: u32) -> Result<Request, Refusal>
 pub fn decode_request(word: u32) -> Result<Request, Refusal>
     ensures { RequestDecoded word result }
 {
-    match unframe(word, REQUEST_START) {
-        Ok(payload) => request_in(payload),
-        Err(cause) => Err(Refusal::BadTelegram(cause)),
-    }
+    request_in(unframe(word, REQUEST_START)?)
 }
 
 /// The nibble whose word this is.
 pub fn decode_reply(word: u32) -> Result<Nibble, Refusal>
     ensures { ReplyDecoded word result }
 {
-    match unframe(word, REPLY_START) {
-        Ok(payload) => Ok(Nibble::low(payload)),
-        Err(cause) => Err(Refusal::BadTelegram(cause)),
-    }
+    let payload = unframe(word, REPLY_START)?;
+    Ok(Nibble::low(payload))
 }

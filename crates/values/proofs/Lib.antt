@@ -1,2 +1,4 @@
+pub mod Arrays
+pub mod Outcomes
 pub mod Tables
 pub mod Tests

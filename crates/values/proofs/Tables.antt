@@ -1,6 +1,7 @@
 -- Tables: their length, their entries, when two are equal, and a write to one place of a store.
-use Rattle.std.proofs.Common.{◌≡◌, ℕ, ◌+◌, ◌<◌, cond, ltb, List, [], ◌∷◌, map, length, get_or, set, sym, refl, ap, ◌∙◌, ⊎_elim, arith}
-use Rattle.std.specs.List.{range_with_len}
+use Rattle.std.proofs.Common.{◌≡◌, ℕ, ◌+◌, ◌%◌, ◌<◌, Bool, cond, ltb, List, [], ◌∷◌, map, length, get_or, set, sym, refl, ap, ◌∙◌, ⊎_elim, arith}
+use Rattle.std.specs.List.{range_with_len, list_all}
+use Rattle.std.proofs.lemmas.List.Folds.{list_all-map}
 use Rattle.std.proofs.lemmas.List.FromFn.{fill_by_all, get_or-map-range_with_len, length-map-range_with_len}
 use Rattle.std.proofs.lemmas.List.{length-set, get_or-set_same, get_or-set_other}
 use Rattle.std.proofs.lemmas.Bool.{cases_eq, cases_lt, lt-ltb, le-ltb, cond-true, cond-false}
@@ -88,3 +89,10 @@ fill_all new old d = same_table (filling 32 new old) new d (λ k h. cond-true _ 
 -- the address that comes next still has its old entry
 pub at_filling : {X : Type 0} (new old : ℕ → X) (i : ℕ) (d : X) → i < 32 → get_or (table (filling i new old)) i d ≡ old i
 at_filling new old i d h = at_table (filling i new old) i d h ∙ cond-false _ (new i) (old i) (le-ltb i i (omega arith))
+
+-- a test that each entry passes, number by number as `Address::low` counts them
+pub list_all-at_addresses : {X : Type 0} (test : X → Bool) (xs : List X) (d : X) → length xs ≡ 32 → list_all test xs ≡ list_all (λ a. test (get_or xs (a % 32) d)) (range_with_len 0 32)
+unfolding table
+list_all-at_addresses test xs d sized =
+    ap (list_all test) (is_table (λ a. get_or xs (a % 32) d) xs d sized (λ k l. ap (λ (n : ℕ). get_or xs n d) (omega arith)))
+    ∙ list_all-map test (λ a. get_or xs (a % 32) d) (range_with_len 0 32)

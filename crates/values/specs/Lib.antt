@@ -1,4 +1,3 @@
 pub mod Refusals
 pub mod Ranges
 pub mod Tables
-pub mod Tests

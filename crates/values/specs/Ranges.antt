@@ -1,6 +1,16 @@
 -- Which numbers are nibbles and addresses, and what a call that is given another one returns.
-use Rattle.std.specs.Prelude.{ℕ, cond, ◌&&◌, nat_lt}
+use Rattle.std.specs.Prelude.{◌≡◌, ℕ, ◌<◌, cond, ◌&&◌, nat_lt, Some, None, Option}
+use Rattle.values.specs.declared.up_to.UpTo.{UpTo}
 use Rattle.values.specs.Refusals.{Outcome, gives, refuses}
+
+-- a number that is tested against the greatest of its range
+abbrev pub within : (max n : ℕ) → Option (UpTo max) → Type 0
+within max n (Some x) = x.value ≡ n
+within max n None = max < n
+
+-- the program's nibbles
+abbrev pub Nibble : Type 0
+Nibble = UpTo 15
 
 -- a nibble is 0 to 15
 abbrev pub nibble_from : ℕ → Outcome ℕ

@@ -1,6 +1,6 @@
 -- The numbers that a refused call returns, and what a call comes to.
 -- The numbers are those of the product's table of returns (docs/REFUSALS.md); a reader compares the two, row by row.
-use Rattle.std.specs.Prelude.{ℕ, Bool, true, false, Ok, Err, Result}
+use Rattle.std.specs.Prelude.{ℕ, Bool, true, false, Some, None, Option, Ok, Err, Result}
 use Rattle.values.specs.declared.refusal.Cause.{Cause}
 use Rattle.values.specs.declared.refusal.Cause.TheVariants.{TooWide, StartBit, EndBit, Parity, NoRequest}
 use Rattle.values.specs.declared.refusal.Refusal.{Refusal}
@@ -24,7 +24,19 @@ numbered NoAnswer = 0x8312
 numbered BadImage = 0x8313
 numbered (BadTelegram c) = 0x8314
 
--- the cause of a refused telegram; any other refusal has none, which is 0
+-- the cause of a refused telegram; any other refusal has none
+abbrev pub cause_of : Refusal → Option Cause
+cause_of BadAddress = None
+cause_of BadValue = None
+cause_of WrongPhase = None
+cause_of NotActive = None
+cause_of QueueFull = None
+cause_of AddressZeroDetected = None
+cause_of NoAnswer = None
+cause_of BadImage = None
+cause_of (BadTelegram c) = Some c
+
+-- its number, which is 0 where there is none
 abbrev pub caused : Refusal → ℕ
 caused BadAddress = 0
 caused BadValue = 0

@@ -1,38 +1,28 @@
-ghost use Rattle.std.specs.Prelude.{◌≡◌, ◌%◌, ◌<◌};
+ghost use Rattle.std.specs.Prelude.{◌≡◌};
 ghost use Rattle.values.specs.Refusals.{outcome};
 ghost use Rattle.values.specs.Ranges.{address_from};
 
+use super::module_address::ModuleAddress;
 use super::refusal::Refusal;
+use super::up_to::UpTo;
 
 /// An address 0 to 31.
-#[derive(Clone, Copy)]
-pub struct Address {
-    value: u8,
-    ghost ok: { value < 32 },
+pub type Address = UpTo<31>;
+
+impl TryFrom<u32> for Address {
+    type Error = Refusal;
+
+    ghost try_from_gives = { λ n r. outcome (λ x. x.value) r ≡ address_from n };
+
+    fn try_from(n: u32) -> Result<Address, Refusal> {
+        Address::checked(n).ok_or(Refusal::BadAddress)
+    }
 }
 
-impl Address {
-    /// The low five bits.
-    pub fn low(n: u32) -> Address
-        ensures { result.value ≡ n % 32 }
-    {
-        Address {
-            value: (n % 32) as u8,
-        }
-    }
+impl From<ModuleAddress> for Address {
+    ghost from_gives = { λ a r. r.value ≡ a.value };
 
-    pub fn new(n: u32) -> Result<Address, Refusal>
-        ensures { outcome (λ x. x.value) result ≡ address_from n }
-    {
-        if n > 31 {
-            return Err(Refusal::BadAddress);
-        }
-        Ok(Address { value: n as u8 })
-    }
-
-    pub fn get(self) -> u8
-        ensures { result ≡ self.value }
-    {
-        self.value
+    fn from(address: ModuleAddress) -> Address {
+        Address::low(u32::from(address.get()))
     }
 }

@@ -5,3 +5,4 @@ pub mod address;
 pub mod module_address;
 pub mod nibble;
 pub mod refusal;
+pub mod up_to;

@@ -1,38 +1,19 @@
-ghost use Rattle.std.specs.Prelude.{◌≡◌, ◌%◌, ◌<◌};
+ghost use Rattle.std.specs.Prelude.{◌≡◌};
 ghost use Rattle.values.specs.Refusals.{outcome};
 ghost use Rattle.values.specs.Ranges.{nibble_from};
 
 use super::refusal::Refusal;
+use super::up_to::UpTo;
 
 /// A number 0 to 15.
-#[derive(Clone, Copy)]
-pub struct Nibble {
-    value: u8,
-    ghost ok: { value < 16 },
-}
+pub type Nibble = UpTo<15>;
 
-impl Nibble {
-    pub fn new(n: u32) -> Result<Nibble, Refusal>
-        ensures { outcome (λ x. x.value) result ≡ nibble_from n }
-    {
-        if n > 15 {
-            return Err(Refusal::BadValue);
-        }
-        Ok(Nibble { value: n as u8 })
-    }
+impl TryFrom<u32> for Nibble {
+    type Error = Refusal;
 
-    /// The low four bits.
-    pub fn low(n: u32) -> Nibble
-        ensures { result.value ≡ n % 16 }
-    {
-        Nibble {
-            value: (n % 16) as u8,
-        }
-    }
+    ghost try_from_gives = { λ n r. outcome (λ x. x.value) r ≡ nibble_from n };
 
-    pub fn get(self) -> u8
-        ensures { result ≡ self.value }
-    {
-        self.value
+    fn try_from(n: u32) -> Result<Nibble, Refusal> {
+        Nibble::checked(n).ok_or(Refusal::BadValue)
     }
 }

@@ -1,14 +1,18 @@
-ghost use Rattle.std.specs.Prelude.{◌≡◌};
-ghost use Rattle.values.specs.Refusals.{numbered, caused, cause_number};
+ghost use Rattle.std.specs.Prelude.{◌≡◌, Some, false};
+ghost use Rattle.std.specs.Fmt.{digits};
+ghost use Rattle.values.specs.Refusals.{numbered, cause_of, cause_number};
+ghost use Rattle.values.specs.declared.refusal.Refusal.TheVariants.{BadTelegram};
+
+use std::fmt;
 
 /// Why a word is no telegram: the first of these that applies.
-#[derive(Clone, Copy)]
+#[derive(Clone, Copy, PartialEq, Eq)]
 pub enum Cause {
-    TooWide,
-    StartBit,
-    EndBit,
-    Parity,
-    NoRequest,
+    TooWide = 1,
+    StartBit = 2,
+    EndBit = 3,
+    Parity = 4,
+    NoRequest = 5,
 }
 
 impl Cause {
@@ -16,18 +20,12 @@ impl Cause {
     pub fn number(self) -> u8
         ensures { result ≡ cause_number self }
     {
-        match self {
-            Cause::TooWide => 1,
-            Cause::StartBit => 2,
-            Cause::EndBit => 3,
-            Cause::Parity => 4,
-            Cause::NoRequest => 5,
-        }
+        self as u8
     }
 }
 
 /// Every reason for which a call of this product refuses.
-#[derive(Clone, Copy)]
+#[derive(Clone, Copy, PartialEq, Eq)]
 pub enum Refusal {
     BadAddress,
     BadValue,
@@ -58,13 +56,30 @@ impl Refusal {
         }
     }
 
-    /// The cause's number where a telegram was refused, else 0.
-    pub fn cause(self) -> u8
-        ensures { result ≡ caused self }
+    /// The cause, where a telegram was refused.
+    pub fn cause(self) -> Option<Cause>
+        ensures { result ≡ cause_of self }
     {
         match self {
-            Refusal::BadTelegram(cause) => cause.number(),
-            _ => 0,
+            Refusal::BadTelegram(cause) => Some(cause),
+            _ => None,
         }
+    }
+}
+
+impl From<Cause> for Refusal {
+    ghost from_gives = { λ cause r. r ≡ BadTelegram cause };
+
+    fn from(cause: Cause) -> Refusal {
+        Refusal::BadTelegram(cause)
+    }
+}
+
+/// The number, as it is printed everywhere: in hexadecimal.
+impl fmt::Display for Refusal {
+    ghost output = { λ refusal. Some (digits 16 false (numbered refusal)) };
+
+    fn fmt<W: fmt::Write>(&self, f: &mut fmt::Formatter<W>) -> fmt::Result {
+        write!(f, "{:x}", self.number())
     }
 }

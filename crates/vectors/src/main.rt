@@ -10,7 +10,7 @@ use std::io;
 use telegrams::request::{Reply, Request};
 use telegrams::word::{decode_request, encode_reply, encode_request};
 use values::nibble::Nibble;
-use values::refusal::Refusal;
+use values::refusal::{Cause, Refusal};
 
 fn show_word(rt: &impl Print, request: Result<Request, Refusal>) -> io::Result<()> {
     match request {
@@ -19,15 +19,19 @@ fn show_word(rt: &impl Print, request: Result<Request, Refusal>) -> io::Result<(
     }
 }
 
+/// 0 where there is none.
+fn cause_number(cause: Option<Cause>) -> u8 {
+    cause.map_or(0, Cause::number)
+}
+
 fn show_refusal(rt: &impl Print, refusal: Refusal) -> io::Result<()> {
-    let number = refusal.number();
-    let cause = refusal.cause();
-    println!(rt; "{number:04X} cause {cause}")
+    let cause = cause_number(refusal.cause());
+    println!(rt; "{refusal} cause {cause}")
 }
 
 fn show_decoded(rt: &impl Print, word: u32) -> io::Result<()> {
     match decode_request(word) {
-        Ok(request) => println!(rt; "a request to {}", request.address()),
+        Ok(request) => println!(rt; "a request to {}", request.address().get()),
         Err(refusal) => show_refusal(rt, refusal),
     }
 }
@@ -80,19 +84,14 @@ fn show_repeaters(rt: &impl Print) -> io::Result<()> {
     }
 }
 
-/// How many of the words of 14 bits are refused for a cause; 0 counts the requests.
-fn words_with(cause: u8) -> u32 {
-    let mut count = 0u32;
-    for word in 0..16384 {
-        let found = match decode_request(word) {
-            Ok(_) => 0,
-            Err(refusal) => refusal.cause(),
-        };
-        if found == cause {
-            count = count.saturating_add(1);
-        }
-    }
-    count
+/// Why a word is no request; `None` where it is one.
+fn word_cause(word: u32) -> Option<Cause> {
+    decode_request(word).err().and_then(Refusal::cause)
+}
+
+/// How many of the words of 14 bits are refused for a cause; `None` counts the requests.
+fn words_with(cause: Option<Cause>) -> usize {
+    (0..16384).filter(|&word| word_cause(word) == cause).count()
 }
 
 fn main(rt: HostRuntime) -> io::Result<()> {
@@ -112,8 +111,15 @@ fn main(rt: HostRuntime) -> io::Result<()> {
     show_heard(&rt, 0x4709_F580, Request::data_exchange(3, 6))?;
     show_heard(&rt, 0x4709_F583, Request::data_exchange(3, 6))?;
     show_repeaters(&rt)?;
-    for cause in 0..6 {
-        println!(rt; "{cause}: {}", words_with(cause))?;
+    for cause in [
+        None,
+        Some(Cause::TooWide),
+        Some(Cause::StartBit),
+        Some(Cause::EndBit),
+        Some(Cause::Parity),
+        Some(Cause::NoRequest),
+    ] {
+        println!(rt; "{}: {}", cause_number(cause), words_with(cause))?;
     }
     Ok(())
 }

@@ -11,8 +11,9 @@ use lines::line::Line;
 use master::cycle::Report;
 use promise::figure::waiting_bound;
 use racks::bench::BenchRack;
+use records::edit::Edit;
 use records::record::Mode;
-use runs::call::{Call, Edit, Outcome};
+use runs::call::{Call, Given, Outcome};
 use runs::plant::Plant;
 use runs::run::run;
 use stations::image::{IMAGE_WORDS, POWER_UP, STATIONS};
@@ -89,6 +90,7 @@ fn full_image() -> [u32; IMAGE_WORDS]
     uniform_image(module(IO_CODE))
 }
 
+// By the count of calls, which is all that a plant is told.
 /// Who swaps the rack: for one with the former module alone, and at plugging for one with a new module at every address.
 #[derive(Drop)]
 struct Plugging {
@@ -125,10 +127,7 @@ impl Plant<BenchRack> for Plugging {
 /// The search reads the I/O code before plugging and the ID code after it, so that the first cycle finds codes of two modules. The second, in
 /// protected mode, does not enter an address whose codes are not the projected ones. The search comes back after all other addresses.
 fn script(heap: Global) -> Result<Vec<Call<'static>>, AllocError> {
-    let mut calls = Vec::new(heap);
-    for _ in 0..PLUGGED {
-        calls.push(Call::Cycle)?;
-    }
+    let mut calls = vec![in heap; Call::Cycle; PLUGGED as usize]?;
     calls.push(Call::Edit(Edit::Project {
         address: ADDRESS,
         io: IO_CODE,
@@ -150,7 +149,7 @@ fn script(heap: Global) -> Result<Vec<Call<'static>>, AllocError> {
 fn show_cycle(rt: &impl Print, number: u32, report: Report, inputs: Nibble) -> io::Result<()> {
     let phase = report.phase.letter();
     let requests = report.requests;
-    let exchanged = if u32::from(inputs.get()) == INPUTS {
+    let exchanged = if u32::from(inputs) == INPUTS {
         "exchanged"
     } else {
         "not exchanged"
@@ -158,26 +157,28 @@ fn show_cycle(rt: &impl Print, number: u32, report: Report, inputs: Nibble) -> i
     println!(rt; "{number} {phase} {requests} {exchanged}")
 }
 
+/// A cycle with the inputs that were read after it.
+fn read_after(pair: &[Outcome]) -> Option<(Report, Nibble)> {
+    let [ran, read] = pair else {
+        return None;
+    };
+    match (*ran, *read) {
+        (Ok(Given::Ran(report)), Ok(Given::Inputs(inputs))) => Some((report, inputs)),
+        _ => None,
+    }
+}
+
 /// Shows the cycles after which the inputs were read, which are those from plugging on.
 fn show_cycles(rt: &impl Print, log: &[Outcome]) -> io::Result<()> {
-    let mut number = 0u32;
-    for pair in log.windows(2) {
-        if let (Outcome::Ran(report), Outcome::Inputs(inputs)) = (pair[0], pair[1]) {
-            number = number.saturating_add(1);
-            show_cycle(rt, number, report, inputs)?;
-        }
+    for (number, (report, inputs)) in (1u32..).zip(log.windows(2).filter_map(read_after)) {
+        show_cycle(rt, number, report, inputs)?;
     }
     Ok(())
 }
 
-fn show_refusal(rt: &impl Print, refusal: Refusal) -> io::Result<()> {
-    let number = refusal.number();
-    println!(rt; "{number:04X}")
-}
-
 fn show_run(rt: &HostRuntime, line: &mut BenchRack, plugging: &mut Plugging) -> io::Result<()> {
     let script = script(rt.alloc())?;
-    let mut log = vec![in rt.alloc(); Outcome::Done; script.len()]?;
+    let mut log = vec![in rt.alloc(); Ok(Given::Nothing); script.len()]?;
     run(line, plugging, &script, &mut [], &mut [], &mut log);
     println!(rt;
         "The module at address {ADDRESS} in the worst case: cycle from plugging on, phase, requests, exchanged or not"
@@ -185,10 +186,14 @@ fn show_run(rt: &HostRuntime, line: &mut BenchRack, plugging: &mut Plugging) -> 
     show_cycles(rt, &log)
 }
 
+/// The empty line, and who will plug modules in.
+fn set_up() -> Result<(BenchRack, Plugging), Refusal> {
+    Ok((BenchRack::open(&empty_image())?, Plugging::new()?))
+}
+
 fn main(rt: HostRuntime) -> io::Result<()> {
-    match (BenchRack::open(&empty_image()), Plugging::new()) {
-        (Ok(mut line), Ok(mut plugging)) => show_run(&rt, &mut line, &mut plugging),
-        (Err(refusal), _) => show_refusal(&rt, refusal),
-        (_, Err(refusal)) => show_refusal(&rt, refusal),
+    match set_up() {
+        Ok((mut line, mut plugging)) => show_run(&rt, &mut line, &mut plugging),
+        Err(refusal) => println!(rt; "{refusal}"),
     }
 }

@@ -2,7 +2,7 @@ use Rattle.std.proofs.Common.{◌≡◌, ℕ, List, map, take, sym, ap, ◌∙�
 use Rattle.std.proofs.lemmas.List.{take_all}
 use Rattle.master.specs.Cycles.{Meaning, meaning, new_card}
 use Rattle.runs.specs.Runs.{came, undisturbed, line_undisturbed}
-use Rattle.runs.specs.declared.call.Outcome.{Outcome}
+use Rattle.runs.specs.Runs.{Logged}
 use Rattle.runs.proofs.Idling.{idle_run}
 use Rattle.first_cycles.specs.Listed.{script}
 use Rattle.first_cycles.proofs.first_cycles.on_line.Goals as goal
@@ -10,7 +10,7 @@ use Rattle.first_cycles.proofs.first_cycles.on_line.Goals as goal
 pub returns : goal.returns
 returns g c =
     let w : Meaning = meaning (g.L.Line.power c.args.line.now) (g.L.Line.stations c.args.line.now) in
-    let log : List Outcome = c.run.new.log in
+    let log : List Logged = c.run.new.log in
     let n : ℕ = c.run.result in
     let made : n ≡ 8 = c.run.ensures.made in
     let idle = idle_run c.run.ensures.ran.ran in

@@ -1,24 +1,16 @@
 use Rattle.std.proofs.Common.{◌≡◌, refl, ◌∙◌, arith}
-use Rattle.records.specs.Records.{rows}
 use Rattle.records.proofs.Written.{rows_sized}
-use Rattle.phases.specs.Exchange.{dropped}
-use Rattle.phases.proofs.Visits.{changing_starts, changing_goes_on, changing_ends}
+use Rattle.phases.proofs.Filling.{fill_starts, still_old, fill_goes_on, fill_ends}
 use Rattle.phases.proofs.offline.clear.Goals as goal
 
 pub loop-a-init : goal.loop-a-init
-loop-a-init c = (refl, changing_starts dropped (rows c.args.target.now) (rows_sized c.args.target.now))
+loop-a-init c = fill_starts _ _ _ (rows_sized c.args.target.now)
 
 pub loop-a-preserved : goal.loop-a-preserved
 loop-a-preserved c =
-    let to : c.low.result.value ≡ c.loop-a.a = omega arith in (
-      c.forget_at.ensures.mode ∙ c.loop-a.invariant.0,
-      changing_goes_on dropped (rows c.args.target.now) c.loop-a.a c.low.result.value (rows c.loop-a.target) (rows c.forget_at.new.target) (omega arith) to
-          c.loop-a.invariant.1 c.forget_at.ensures.rows,
-    )
+    let to : c.low.result.value ≡ c.loop-a.a = omega arith in
+    let row = still_old _ _ _ _ _ (omega arith) c.loop-a.invariant in
+    fill_goes_on _ _ _ _ _ _ (omega arith) c.loop-a.invariant (c.forget_at.ensures ∙ rw (to, row) refl)
 
 pub returns : goal.returns
-returns c =
-    record {
-      mode = c.loop-a.invariant.0;
-      rows = changing_ends dropped (rows c.args.target.now) c.loop-a.a (rows c.loop-a.target) (omega (arith, c.loop-a.auto.a-end)) c.loop-a.invariant.1;
-    }
+returns c = fill_ends _ _ _ _ _ (omega (arith, c.loop-a.auto.a-end)) c.loop-a.invariant

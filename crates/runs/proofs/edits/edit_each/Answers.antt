@@ -4,9 +4,11 @@ use Rattle.values.specs.Refusals.{outcome}
 use Rattle.records.specs.Records.{rows}
 use Rattle.records.specs.declared.record.Mode.{Mode}
 use Rattle.promise.specs.Successions.{all_edited}
-use Rattle.runs.specs.Runs.{change_of, accepted_edits}
-use Rattle.runs.specs.declared.call.Edit.{Edit}
-use Rattle.runs.proofs.Edited.{edited_more, accepted_more}
+use Rattle.runs.specs.Runs.{accepted_edits}
+use Rattle.records.specs.Edits.{change_of}
+use Rattle.records.specs.declared.edit.Edit.{Edit}
+use mir.Val.{bool_byte}
+use Rattle.runs.proofs.Edited.{edited_more, at_most_one, counted, accepted_more}
 use Rattle.runs.proofs.edits.edit_each.Goals as goal
 
 pub loop-edit-preserved : goal.loop-edit-preserved
@@ -15,14 +17,14 @@ loop-edit-preserved c =
     let es : List Edit = c.args.edits.now in
     let mode : Mode = c.args.projection.now.target.now.mode in
     let inv = c.loop-edit.invariant in
-    let made = c.edit_through.ensures in
+    let made = c.edit.ensures in
     let inside : i < length es = c.loop-edit-test.true in (
       made.lender ∙ inv.0,
       made.former ∙ inv.1,
-      made.mode ∙ inv.2,
-      edited_more mode es i _ inside c.loop-edit.projection.target.now.mode inv.2 _ _ _ inv.3 made.rows,
-      accepted_more mode es i _ inside c.loop-edit.projection.target.now.mode inv.2 _ _ (outcome (λ u. u) c.edit_through.result) inv.4 made.result c.count-accepted.ensures.is,
-      omega (arith, inv.5, c.count-accepted.ensures.few),
+      made.edited.mode ∙ inv.2,
+      edited_more mode es i _ inside c.loop-edit.projection.target.now.mode inv.2 _ _ _ inv.3 made.edited.rows_after,
+      accepted_more mode es i _ inside c.loop-edit.projection.target.now.mode inv.2 _ _ (outcome (λ u. u) c.edit.result) inv.4 made.edited.came_to (c.from-accepted.ensures ∙ ap bool_byte c.is_ok.ensures.value ∙ counted c.edit.result),
+      omega (arith, inv.5, c.from-accepted.ensures, at_most_one c.is_ok.result),
     )
 
 pub returns : goal.returns
@@ -36,5 +38,5 @@ returns c =
       former = inv.1;
       mode = inv.2;
       accepted = inv.4 ∙ ap (λ (xs : List Edit). accepted_edits mode (map change_of xs)) all;
-      rows = inv.3 ∙ ap (λ (xs : List Edit). all_edited mode (map change_of xs) (rows c.args.projection.now.target.now)) all;
+      rows = inv.3 ∙ ap (λ (xs : List Edit). all_edited mode (map change_of xs) (rows c.args.projection.now.target.now.rows)) all;
     }

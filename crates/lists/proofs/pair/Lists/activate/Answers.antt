@@ -5,7 +5,7 @@ use Rattle.lists.proofs.pair.Lists.activate.Goals as goal
 pub invariant_of-self : goal.invariant_of-self
 invariant_of-self c =
     let old = c.args.self.now in
-    let a = c.low-to.result.value in
+    let a = c.from-to.result.value in
     record {
       ok = (
         rw (c.with.ensures, c.with-2.ensures) (within_activated old.lds old.las a old.ok.0),

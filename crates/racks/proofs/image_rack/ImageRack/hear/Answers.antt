@@ -11,10 +11,10 @@ returns-then-not-is_powered c =
     }
 
 pub bounds-self-address : goal.bounds-self-address
-bounds-self-address c = omega (arith, powered_long c.args.self.now.words.now (sym c.if-not-is_powered.ensures), c.address.ensures.below)
+bounds-self-address c = omega (arith, powered_long c.args.self.now.words.now (sym c.if-not-is_powered.ensures), c.address.result.ok)
 
 pub bounds-self-address-2 : goal.bounds-self-address-2
-bounds-self-address-2 c = omega (arith, powered_long c.args.self.now.words.now (sym c.if-not-is_powered.ensures), c.address.ensures.below)
+bounds-self-address-2 c = omega (arith, powered_long c.args.self.now.words.now (sym c.if-not-is_powered.ensures), c.address.result.ok)
 
 pub returns : goal.returns
 returns c =
@@ -23,7 +23,7 @@ returns c =
     record {
       carried =
           carried_by_word (sent c.args.request) c.args.self.now.words.now c.from-address.result c.word.result station.result
-          hears.new.self (heard hears.result) (sym c.if-not-is_powered.ensures) (c.from-address.ensures ∙ c.address.ensures.is)
-          (omega (arith, c.address.ensures.below)) station.ensures hears.ensures.after hears.ensures.reply c.word.ensures;
+          hears.new.self (heard hears.result) (sym c.if-not-is_powered.ensures) (c.from-address.ensures ∙ c.address.ensures)
+          (omega (arith, c.address.result.ok)) station.ensures hears.ensures.after hears.ensures.reply c.word.ensures;
       lender = refl;
     }

@@ -1,0 +1,53 @@
+//! What may be done with a projection and what it borrows. Each is the rightful twin of a misuse that `scripts/test-misuse` has the compiler refuse: the same lines in another order.
+use crate::script::one_module;
+use master::master::Master;
+use orders::pair::Queues;
+use phases::offline::clear;
+use racks::bench::BenchRack;
+use records::projection::Projection;
+use records::record::{Mode, Record};
+use std::test::*;
+use values::address::Address;
+
+fn protected() -> Record {
+    let mut record = Record::new();
+    let _ = record.set_mode(Mode::Protected);
+    record
+}
+
+#[test]
+fn edit_then_close(rt: HostRuntime) {
+    let mut record = protected();
+    let mut projection = Projection::open(&mut record);
+    let edited = projection.project(3, 7, 0, 5);
+    drop(projection);
+    assert!(rt; edited.is_ok());
+    assert!(rt; record.mode() == Mode::Protected);
+    assert!(rt; record.rows.is_projected(Address::low(3)));
+}
+
+#[test]
+fn close_then_run_a_part_of_the_cycle(rt: HostRuntime) {
+    let mut record = protected();
+    let mut projection = Projection::open(&mut record);
+    let edited = projection.project(3, 7, 0, 5);
+    drop(projection);
+    clear(&mut record.rows);
+    assert!(rt; edited.is_ok());
+    assert!(rt; record.rows.is_projected(Address::low(3)));
+}
+
+#[test]
+fn close_then_run_a_cycle(rt: HostRuntime) -> Result<(), Fail> {
+    let Ok(mut rack) = BenchRack::open(&one_module().words) else {
+        return Err(Fail::new("good image refused"));
+    };
+    let mut master = Master::new();
+    let mut queues = Queues::over(&mut [], &mut []);
+    let mut projection = Projection::open(&mut master.table);
+    let edited = projection.project(3, 7, 0, 5);
+    drop(projection);
+    master.cycle(&mut rack, &mut queues);
+    assert!(rt; edited.is_ok());
+    Ok(())
+}

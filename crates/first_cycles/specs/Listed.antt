@@ -3,7 +3,8 @@
 use Rattle.std.specs.Prelude.{ℕ, cond, List, [], ◌∷◌}
 use Rattle.values.specs.Refusals.{Outcome, gives, refuses, refuses_for}
 use Rattle.stations.specs.Images.{image_from, good_image, powered_in, place_at}
-use Rattle.master.specs.Cycles.{meaning, new_card}
+use Rattle.lines.specs.Lines.{meaning}
+use Rattle.master.specs.Cycles.{new_card}
 use Rattle.runs.specs.Runs.{Came, undisturbed}
 use Rattle.runs.specs.declared.call.Call.{Call}
 use Rattle.runs.specs.declared.call.Call.TheVariants.{Cycle, ReadLists}

@@ -1,6 +1,7 @@
 ghost use Rattle.std.specs.Prelude.{◌≡◌, map};
 ghost use Rattle.values.specs.Refusals.{outcome};
-ghost use Rattle.master.specs.Cycles.{meaning, new_card};
+ghost use Rattle.lines.specs.Lines.{meaning};
+ghost use Rattle.master.specs.Cycles.{new_card};
 ghost use Rattle.runs.specs.Runs.{came, undisturbed, line_undisturbed};
 ghost use Rattle.first_cycles.specs.Listed.{script, listed};
 

@@ -1,8 +1,16 @@
 -- A line: whether its power is up, and what stands at the station of each address 0 to 31.
 -- A request changes at most the addressed station, by the rules of one station.
 use Rattle.std.specs.Prelude.{ℕ, ◌/◌, Bool, List, slice_index_or, slice_set}
+use Rattle.values.specs.Tables.{table}
 use Rattle.telegrams.specs.Requests.{Sent, Heard, nibble, silence, disturbed}
 use Rattle.stations.specs.Stations.{Place, vacant, occupied, with_disturbance, after, reply}
+
+pub record Meaning : Type 0 where
+  pub power : Bool
+  pub places : List Place
+
+abbrev pub meaning : Bool → (ℕ → Place) → Meaning
+meaning power stations = record { power = power; places = table stations }
 
 abbrev pub at : List Place → ℕ → Place
 at ps a = slice_index_or ps a vacant

@@ -3,7 +3,7 @@ use Rattle.std.proofs.Common.{◌≡◌, ℕ, ◌+◌, ◌<◌, Bool, true, fals
 use Rattle.std.proofs.lemmas.List.{length-append, length-map}
 use Rattle.telegrams.specs.Requests.{Sent}
 use Rattle.stations.specs.Stations.{Place}
-use Rattle.lines.specs.Lines.{at}
+use Rattle.lines.specs.Lines.{Meaning, at}
 use Rattle.records.specs.Rows.{Row, row_at}
 use Rattle.records.specs.declared.record.Mode.{Mode}
 use Rattle.phases.specs.Visits.{Visit, sent_below, AllVisited}
@@ -17,7 +17,7 @@ use Rattle.orders.specs.declared.order.Order.TheVariants.{Parameter, Reset}
 use Rattle.orders.specs.declared.pair.Queues.{Queues}
 use Rattle.search.specs.Steps.{Stage}
 use Rattle.search.specs.Searches.{search_visit, taken_by, next_step, Searched}
-use Rattle.master.specs.Cycles.{Control, Card, Meaning, Scene, with_rows, with_phase, with_step, with_control, beginning, visit_made, everywhere, only, exchange, ending_at, answered, carry_out, manage_by, manage, search_on, phased, kept_offline, stay_offline, run, running, cycle, Became, Cycled}
+use Rattle.master.specs.Cycles.{Control, Card, Scene, with_rows, with_phase, with_step, with_control, beginning, visit_made, everywhere, only, exchange, ending_at, answered, carry_out, manage_by, manage, search_on, phased, kept_offline, stay_offline, run, running, cycle, Became, Cycled}
 use Rattle.master.specs.declared.master.Phase.{Phase}
 use Rattle.master.specs.declared.master.Phase.TheVariants.{Offline, Normal}
 use Rattle.master.proofs.Visiting.{only_visited}
@@ -46,25 +46,25 @@ module _ (c : Card) (l : Meaning) (qs : List Sent) (n : ℕ) (so_far : n ≡ len
   now = record { card = c; line = l; sent = qs }
 
   -- each address was visited
-  visited_on : (visit : ℕ → Row → Place → Visit) (rs' : List Row) (ps' : List Place) (m : ℕ) → AllVisited visit c.control.rows rs' l.places ps' m → Became (everywhere visit now) (with_control (with_rows rs' c.control) c) (record { power = l.power; places = ps' }) (n + m)
+  visited_on : (visit : Bool → ℕ → Row → Place → Visit) (rs' : List Row) (l' : Meaning) (m : ℕ) → AllVisited visit c.control.rows rs' l l' m → Became (everywhere (visit l.power) now) (with_control (with_rows rs' c.control) c) l' (n + m)
   unfolding everywhere
-  visited_on visit rs' ps' m visited =
+  visited_on visit rs' l' m visited =
       record {
         card_is = ap (λ (rs : List Row). with_control (with_rows rs c.control) c) visited.rows_after;
-        line_is = ap (λ (ps : List Place). record { power = l.power; places = ps }) visited.places_after;
+        line_is = visited.line_after;
         counted =
             ap (λ (k : ℕ). k + m) so_far
             ∙ ap (λ (k : ℕ). length qs + k) visited.counted
-            ∙ sym (length-append qs (sent_below 32 (λ a. (visit_made visit now a).sent)));
+            ∙ sym (length-append qs (sent_below 32 (λ a. (visit_made (visit l.power) now a).sent)));
       }
 
   -- the search took a step
-  pub searched_on : (t : Stage) (rs' : List Row) (ps' : List Place) (m : ℕ) → length c.control.rows ≡ 32 → length l.places ≡ 32 → taken_by c.control.rows c.control.step < 32 → Searched c.control.mode l.power c.control.step t c.control.rows rs' l.places ps' m → Became (search_on now) (with_control (with_step t (with_rows rs' c.control)) c) (record { power = l.power; places = ps' }) (n + m)
+  pub searched_on : (t : Stage) (rs' : List Row) (l' : Meaning) (m : ℕ) → length c.control.rows ≡ 32 → length l.places ≡ 32 → taken_by c.control.rows c.control.step < 32 → Searched c.control.mode c.control.step t c.control.rows rs' l l' m → Became (search_on now) (with_control (with_step t (with_rows rs' c.control)) c) l' (n + m)
   unfolding search_on
-  searched_on t rs' ps' m rows_32 places_32 inside searched =
+  searched_on t rs' l' m rows_32 places_32 inside searched =
       let to : ℕ = taken_by c.control.rows c.control.step in
-      let visit : Row → Place → Visit = search_visit c.control.mode l.power c.control.step to in
-      let all = visited_on (only to visit) rs' ps' m (only_visited visit to c.control.rows rs' l.places ps' m inside rows_32 places_32 searched.visited) in
+      let visit : Bool → Row → Place → Visit = λ power. search_visit c.control.mode power c.control.step to in
+      let all = visited_on (λ power. only to (visit power)) rs' l' m (only_visited visit to c.control.rows rs' l l' m inside rows_32 places_32 searched.visited) in
       record {
         card_is =
             ap (λ (u : Stage). with_control (with_step u (with_rows rs' c.control)) c) searched.steps
@@ -77,15 +77,15 @@ abbrev card_with : Control → Queues → Card
 card_with m q = record { control = m; orders = waiting q; answers = uncollected q; order_room = room q.orders; answer_room = room q.answers }
 
 -- management took an order, if any
-module _ (m : Control) (q q' : Queues) (l : Meaning) (qs : List Sent) (n : ℕ) (so_far : n ≡ length qs) (served : Served q q') (rows_32 : length m.rows ≡ 32) (places_32 : length l.places ≡ 32) (rs' : List Row) (ps' : List Place) (k : ℕ) where
+module _ (m : Control) (q q' : Queues) (l : Meaning) (qs : List Sent) (n : ℕ) (so_far : n ≡ length qs) (served : Served q q') (rows_32 : length m.rows ≡ 32) (places_32 : length l.places ≡ 32) (rs' : List Row) (l' : Meaning) (k : ℕ) where
   abbrev met : Scene
   met = record { card = card_with m q; line = l; sent = qs }
 
   abbrev LeftSo : Scene → Type 0
-  LeftSo s = Became s (card_with (with_rows rs' m) q') (record { power = l.power; places = ps' }) (n + k)
+  LeftSo s = Became s (card_with (with_rows rs' m) q') l' (n + k)
 
   abbrev ManagedSo : Option Order → Type 0
-  ManagedSo o = Managed l.power o q q' m.rows rs' l.places ps' k
+  ManagedSo o = Managed o q q' m.rows rs' l l' k
 
   card_left : (os : List Sent) (ts : List Told) → waiting q' ≡ os → uncollected q' ≡ ts → card_with (with_rows rs' m) q' ≡ record { control = with_rows rs' m; orders = os; answers = ts; order_room = room q.orders; answer_room = room q.answers }
   card_left os ts wait uncollect =
@@ -97,15 +97,15 @@ module _ (m : Control) (q q' : Queues) (l : Meaning) (qs : List Sent) (n : ℕ) 
   none_taken managed =
       record {
         card_is = card_left (waiting q) (uncollected q) (ap (map ordered) managed.0) managed.1 ∙ ap (λ (rs : List Row). card_with (with_rows rs m) q) managed.2;
-        line_is = ap (λ (ps : List Place). record { power = l.power; places = ps }) managed.3;
+        line_is = managed.3;
         counted = omega (arith, managed.4);
       }
 
   one_taken : (o : Order) (rest : List Order) → held q.orders ≡ o ∷ rest → ManagedSo (Some o) → LeftSo (carry_out (ordered o) (map ordered rest) met)
   one_taken o rest wait managed =
       let to : ℕ = (ordered o).to in
-      let visit : Row → Place → Visit = manage_visit l.power (ordered o).asking in
-      let all = visited_on (card_with m q) l qs n so_far (only to visit) rs' ps' k (only_visited visit to m.rows rs' l.places ps' k (order_inside o) rows_32 places_32 managed.2) in
+      let visit : Bool → Row → Place → Visit = λ power. manage_visit power (ordered o).asking in
+      let all = visited_on (card_with m q) l qs n so_far (λ power. only to (visit power)) rs' l' k (only_visited visit to m.rows rs' l l' k (order_inside o) rows_32 places_32 managed.2) in
       record {
         card_is =
             card_left _ _ (ap (map ordered) (managed.0 ∙ ap take_after wait)) managed.1
@@ -133,49 +133,39 @@ module _ (m : Control) (q q' : Queues) (l : Meaning) (qs : List Sent) (n : ℕ) 
       (subst (λ (j : ℕ). ManagedSo (cond (ltb j (room q.answers)) (oldest_of (held q.orders)) None)) (sym (length-map (held q.answers) told)) managed)
 
 -- a phase that visits each address, and the phase that is next
-pub visited_run : (c : Card) {l : Meaning} {visit : ℕ → Row → Place → Visit} {next : Phase} {power : Bool} {rs' : List Row} {ps' : List Place} {n : ℕ} → power ≡ l.power → AllVisited visit c.control.rows rs' l.places ps' n → Became (phased next (everywhere visit (beginning c l))) (with_control (with_phase next (with_rows rs' c.control)) c) (record { power = power; places = ps' }) n
-visited_run c {l} {visit} {next} {power} {rs'} {ps'} {n} lit visited =
-    let all = visited_on c l [] 0 refl visit rs' ps' n visited in
+pub visited_run : (c : Card) {l l' : Meaning} {visit : Bool → ℕ → Row → Place → Visit} {next : Phase} {rs' : List Row} {n : ℕ} → AllVisited visit c.control.rows rs' l l' n → Became (phased next (everywhere (visit l.power) (beginning c l))) (with_control (with_phase next (with_rows rs' c.control)) c) l' n
+visited_run c {l} {l'} {visit} {next} {rs'} {n} visited =
+    let all = visited_on c l [] 0 refl visit rs' l' n visited in
     record {
       card_is = ap (λ (d : Card). with_control (with_phase next d.control) d) all.card_is;
-      line_is = ap (λ (p : Bool). record { power = p; places = ps' }) lit ∙ all.line_is;
+      line_is = all.line_is;
       counted = omega (arith, all.counted);
     }
 
 -- data exchange, management and search, one after another
 pub normal_run :
-    {m : Control} {q q' : Queues} {l : Meaning} {mode : Mode} {power₁ power₂ power₃ : Bool} {t : Stage} {rs₁ rs₂ rs₃ : List Row} {ps₁ ps₂ ps₃ : List Place} {n₁ n₃ : ℕ} (n₂ : ℕ) →
-    length rs₁ ≡ 32 → length ps₁ ≡ 32 → length rs₂ ≡ 32 → length ps₂ ≡ 32 → taken_by rs₂ m.step < 32 →
-    mode ≡ m.mode → power₁ ≡ l.power → power₂ ≡ power₁ → power₃ ≡ power₂ → Served q q' →
-    AllVisited (λ a. exchange_visit l.power) m.rows rs₁ l.places ps₁ n₁ →
-    Managed power₁ (next_order q) q q' rs₁ rs₂ ps₁ ps₂ n₂ →
-    Searched mode power₂ m.step t rs₂ rs₃ ps₂ ps₃ n₃ →
-    Became (run Normal (beginning (card_with m q) l)) (card_with (with_step t (with_rows rs₃ m)) q') (record { power = power₃; places = ps₃ }) (n₁ + n₂ + n₃)
-normal_run {m} {q} {q'} {l} {mode} {power₁} {power₂} {power₃} {t} {rs₁} {rs₂} {rs₃} {ps₁} {ps₂} {ps₃} {n₁} {n₃} n₂ rows_1 places_1 rows_2 places_2 inside same p₁ p₂ p₃ served exchanged managed searched =
+    {m : Control} {q q' : Queues} {l l₁ l₂ l₃ : Meaning} {mode : Mode} {t : Stage} {rs₁ rs₂ rs₃ : List Row} {n₁ n₃ : ℕ} (n₂ : ℕ) →
+    length rs₁ ≡ 32 → length l₁.places ≡ 32 → length rs₂ ≡ 32 → length l₂.places ≡ 32 → taken_by rs₂ m.step < 32 →
+    mode ≡ m.mode → Served q q' →
+    AllVisited (λ power a. exchange_visit power) m.rows rs₁ l l₁ n₁ →
+    Managed (next_order q) q q' rs₁ rs₂ l₁ l₂ n₂ →
+    Searched mode m.step t rs₂ rs₃ l₂ l₃ n₃ →
+    Became (run Normal (beginning (card_with m q) l)) (card_with (with_step t (with_rows rs₃ m)) q') l₃ (n₁ + n₂ + n₃)
+normal_run {m} {q} {q'} {l} {l₁} {l₂} {l₃} {mode} {t} {rs₁} {rs₂} {rs₃} {n₁} {n₃} n₂ rows_1 places_1 rows_2 places_2 inside same served exchanged managed searched =
     let c₁ : Card = card_with (with_rows rs₁ m) q in
-    let l₁ : Meaning = record { power = l.power; places = ps₁ } in
     let c₂ : Card = card_with (with_rows rs₂ m) q' in
-    let l₂ : Meaning = record { power = l.power; places = ps₂ } in
     let c₃ : Card = card_with (with_step t (with_rows rs₃ m)) q' in
-    let l₃ : Meaning = record { power = l.power; places = ps₃ } in
     let s₁ : Scene = exchange (beginning (card_with m q) l) in
     let s₂ : Scene = manage s₁ in
-    let first = visited_on (card_with m q) l [] 0 refl (λ a. exchange_visit l.power) rs₁ ps₁ n₁ exchanged in
-    let managed' : Managed l.power (next_order q) q q' rs₁ rs₂ ps₁ ps₂ n₂ = subst (λ (p : Bool). Managed p (next_order q) q q' rs₁ rs₂ ps₁ ps₂ n₂) p₁ managed in
+    let first = visited_on (card_with m q) l [] 0 refl (λ power a. exchange_visit power) rs₁ l₁ n₁ exchanged in
     let second : Became s₂ c₂ l₂ (0 + n₁ + n₂) =
     subst (λ (s : Scene). Became (manage s) c₂ l₂ (0 + n₁ + n₂)) (scene_is s₁ c₁ l₁ (0 + n₁) first)
-    (managed_on (with_rows rs₁ m) q q' l₁ s₁.sent (0 + n₁) first.counted served rows_1 places_1 rs₂ ps₂ n₂ managed') in
-    let searched' : Searched m.mode l.power m.step t rs₂ rs₃ ps₂ ps₃ n₃ =
-    subst (λ (p : Bool). Searched m.mode p m.step t rs₂ rs₃ ps₂ ps₃ n₃) (p₂ ∙ p₁)
-    (subst (λ (k : Mode). Searched k power₂ m.step t rs₂ rs₃ ps₂ ps₃ n₃) same searched) in
+    (managed_on (with_rows rs₁ m) q q' l₁ s₁.sent (0 + n₁) first.counted served rows_1 places_1 rs₂ l₂ n₂ managed) in
+    let searched' : Searched m.mode m.step t rs₂ rs₃ l₂ l₃ n₃ = subst (λ (k : Mode). Searched k m.step t rs₂ rs₃ l₂ l₃ n₃) same searched in
     let third : Became (search_on s₂) c₃ l₃ (0 + n₁ + n₂ + n₃) =
     subst (λ (s : Scene). Became (search_on s) c₃ l₃ (0 + n₁ + n₂ + n₃)) (scene_is s₂ c₂ l₂ (0 + n₁ + n₂) second)
-    (searched_on c₂ l₂ s₂.sent (0 + n₁ + n₂) second.counted t rs₃ ps₃ n₃ rows_2 places_2 inside searched') in
-    record {
-      card_is = third.card_is;
-      line_is = ap (λ (p : Bool). record { power = p; places = ps₃ }) (p₃ ∙ p₂ ∙ p₁) ∙ third.line_is;
-      counted = omega (arith, third.counted);
-    }
+    (searched_on c₂ l₂ s₂.sent (0 + n₁ + n₂) second.counted t rs₃ l₃ n₃ rows_2 places_2 inside searched') in
+    record { card_is = third.card_is; line_is = third.line_is; counted = omega (arith, third.counted) }
 
 pub whole_cycle : {c : Card} {l : Meaning} {power : Bool} {phase : Phase} {c' : Card} {l' : Meaning} {n : ℕ} → power ≡ l.power → phase ≡ cond (c.control.offline || not power) Offline c.control.phase → Became (run phase (beginning c l)) c' l' n → Cycled c l phase n c' l'
 unfolding cycle

@@ -1,12 +1,12 @@
 -- A visit to one address, written as a visit to each address that leaves all the others alone.
-use Rattle.std.proofs.Common.{◌≡◌, ℕ, zero, suc, ◌+◌, ◌<◌, ◌≤◌, eqb, List, [], length, get_or, set, sym, refl, ap, ◌∙◌, ⊎_elim, arith}
+use Rattle.std.proofs.Common.{◌≡◌, ℕ, zero, suc, ◌+◌, ◌<◌, ◌≤◌, Bool, eqb, List, [], length, get_or, set, sym, refl, ap, ◌∙◌, ⊎_elim, arith}
 use Rattle.std.proofs.lemmas.List.{length-append, length-set, get_or-set_same, get_or-set_other}
 use Rattle.std.proofs.lemmas.Bool.{cases_eq, eq-eqb, ne_eqb, cond-true, cond-false}
 use Rattle.values.specs.Tables.{table}
 use Rattle.values.proofs.Tables.{is_table}
 use Rattle.telegrams.specs.Requests.{Asking}
 use Rattle.stations.specs.Stations.{Place, vacant}
-use Rattle.lines.specs.Lines.{at}
+use Rattle.lines.specs.Lines.{Meaning, at}
 use Rattle.records.specs.Rows.{Row, new_row, row_at}
 use Rattle.phases.specs.Visits.{Visit, left_alone, Visited, addressed, sent_below, AllVisited}
 use Rattle.phases.proofs.Visits.{addressed-length}
@@ -53,26 +53,30 @@ written_table {X} xs b x d f inside sized here elsewhere =
     other : (k : ℕ) → (k ≡ b → ⊥) → get_or (set xs b x) k d ≡ f k
     other k ne = get_or-set_other xs b k x d ne ∙ sym (elsewhere k ne)
 
-pub only_visited : (v : Row → Place → Visit) (b : ℕ) (rs rs' : List Row) (ps ps' : List Place) (n : ℕ) → b < 32 → length rs ≡ 32 → length ps ≡ 32 → Visited v b rs rs' ps ps' n → AllVisited (only b v) rs rs' ps ps' n
-only_visited v b rs rs' ps ps' n inside rows_32 places_32 visited =
+pub only_visited : (visit : Bool → Row → Place → Visit) (b : ℕ) (rs rs' : List Row) (l l' : Meaning) (n : ℕ) → b < 32 → length rs ≡ 32 → length l.places ≡ 32 → Visited visit b rs rs' l l' n → AllVisited (λ power. only b (visit power)) rs rs' l l' n
+only_visited visit b rs rs' l l' n inside rows_32 places_32 visited =
     record {
       rows_after =
           visited.rows_after
-          ∙ written_table rs b there.row new_row (λ a. (made a).row) inside rows_32 (ap (λ (w : Visit). w.row) (only_there b v (row_at b rs) (at ps b))) (λ k ne. ap (λ (w : Visit). w.row) (alone k ne));
-      places_after =
-          visited.places_after
-          ∙ written_table ps b there.place vacant (λ a. (made a).place) inside places_32 (ap (λ (w : Visit). w.place) (only_there b v (row_at b rs) (at ps b))) (λ k ne. ap (λ (w : Visit). w.place) (alone k ne));
+          ∙ written_table rs b there.row new_row (λ a. (made a).row) inside rows_32 (ap (λ (w : Visit). w.row) here) (λ k ne. ap (λ (w : Visit). w.row) (alone k ne));
+      line_after =
+          visited.line_after
+          ∙ ap (λ (ps : List Place). record l { places = ps })
+          (written_table l.places b there.place vacant (λ a. (made a).place) inside places_32 (ap (λ (w : Visit). w.place) here) (λ k ne. ap (λ (w : Visit). w.place) (alone k ne)));
       counted =
           visited.counted
-          ∙ ap (λ (w : Visit). length w.sent) (sym (only_there b v (row_at b rs) (at ps b)))
+          ∙ ap (λ (w : Visit). length w.sent) (sym here)
           ∙ sym (sent_there (λ a. (made a).sent) b (λ k ne. ap (λ (w : Visit). w.sent) (alone k ne)) 32 inside);
     }
   where
     made : ℕ → Visit
-    made a = only b v a (row_at a rs) (at ps a)
+    made a = only b (visit l.power) a (row_at a rs) (at l.places a)
 
     there : Visit
-    there = v (row_at b rs) (at ps b)
+    there = visit l.power (row_at b rs) (at l.places b)
 
-    alone : (k : ℕ) → (k ≡ b → ⊥) → made k ≡ left_alone (row_at k rs) (at ps k)
-    alone k ne = only_elsewhere b v (row_at k rs) (at ps k) k ne
+    here : made b ≡ there
+    here = only_there b (visit l.power) (row_at b rs) (at l.places b)
+
+    alone : (k : ℕ) → (k ≡ b → ⊥) → made k ≡ left_alone (row_at k rs) (at l.places k)
+    alone k ne = only_elsewhere b (visit l.power) (row_at k rs) (at l.places k) k ne

@@ -6,7 +6,7 @@ use Rattle.std.specs.Prelude.{◌≡◌, ℕ, Bool, false, cond, not, ◌||◌, 
 use Rattle.values.specs.Tables.{table}
 use Rattle.telegrams.specs.Requests.{Sent}
 use Rattle.stations.specs.Stations.{Place}
-use Rattle.lines.specs.Lines.{at}
+use Rattle.lines.specs.Lines.{Meaning, at}
 use Rattle.queues.specs.Fifo.{room}
 use Rattle.records.specs.Rows.{Row, row_at, new_rows}
 use Rattle.records.specs.Records.{rows}
@@ -45,11 +45,6 @@ pub record Card : Type 0 where
   pub order_room : ℕ
   pub answer_room : ℕ
 
--- a line: whether its power is up, and what stands at each address
-pub record Meaning : Type 0 where
-  pub power : Bool
-  pub places : List Place
-
 abbrev pub control_of : Master → Control
 control_of m =
     record {
@@ -64,9 +59,6 @@ control_of m =
 abbrev pub card_of : Master → Queues → Card
 card_of m q =
     record { control = control_of m; orders = waiting q; answers = uncollected q; order_room = room q.orders; answer_room = room q.answers }
-
-abbrev pub meaning : Bool → (ℕ → Place) → Meaning
-meaning power stations = record { power = power; places = table stations }
 
 unfoldable pub new_control : Control
 new_control = record { mode = Configuration; offline = false; power_fail = false; phase = Offline; step = seek 0; rows = new_rows }

@@ -1,6 +1,7 @@
 ghost use Rattle.std.specs.Prelude.{◌≡◌, not, ◌||◌, if◌then◌else◌};
 ghost use Rattle.orders.specs.Queues.{Served};
-ghost use Rattle.master.specs.Cycles.{control_of, card_of, meaning, beginning, run, running, kept_offline, Became, Cycled};
+ghost use Rattle.lines.specs.Lines.{meaning};
+ghost use Rattle.master.specs.Cycles.{control_of, card_of, beginning, run, running, kept_offline, Became, Cycled};
 
 use super::master::{Master, Phase};
 use lines::line::Line;

@@ -4,7 +4,7 @@
 use Rattle.std.specs.Prelude.{◌≡◌, ℕ, Bool, cond, List, [], ◌∷◌, ◌++◌, length, Some, None, Option, nat_lt}
 use Rattle.telegrams.specs.Requests.{Asking, Heard, nibble, silence, disturbed, data_exchange, write_parameter, read_io, read_id, resetting}
 use Rattle.stations.specs.Stations.{Place, after, reply}
-use Rattle.lines.specs.Lines.{at}
+use Rattle.lines.specs.Lines.{Meaning, at}
 use Rattle.queues.specs.Fifo.{held, room, oldest_of, take_after}
 use Rattle.records.specs.Rows.{Row, row_at}
 use Rattle.phases.specs.Activation.{with_pi}
@@ -38,11 +38,11 @@ manage_ending power q r p = cond r.active (replied (reply power p q)) inactive
 abbrev pub next_order : Queues → Option Order
 next_order q = cond (nat_lt (length (held q.answers)) (room q.answers)) (oldest_of (held q.orders)) None
 
--- management took this order, if any: queues, rows and stations before and afterwards, and how many requests were sent
-abbrev pub Managed : Bool → Option Order → Queues → Queues → List Row → List Row → List Place → List Place → ℕ → Type 0
-Managed power None q q' rs rs' ps ps' n =
-    (held q'.orders ≡ held q.orders) × (uncollected q' ≡ uncollected q) × (rs' ≡ rs) × (ps' ≡ ps) × (n ≡ 0)
-Managed power (Some o) q q' rs rs' ps ps' n =
+-- management took this order, if any: queues, rows and line before and afterwards, and how many requests were sent
+abbrev pub Managed : Option Order → Queues → Queues → List Row → List Row → Meaning → Meaning → ℕ → Type 0
+Managed None q q' rs rs' l l' n =
+    (held q'.orders ≡ held q.orders) × (uncollected q' ≡ uncollected q) × (rs' ≡ rs) × (l' ≡ l) × (n ≡ 0)
+Managed (Some o) q q' rs rs' l l' n =
     (held q'.orders ≡ take_after (held q.orders))
-    × (uncollected q' ≡ uncollected q ++ record { order = ordered o; how = manage_ending power (ordered o).asking (row_at (ordered o).to rs) (at ps (ordered o).to) } ∷ [])
-    × Visited (manage_visit power (ordered o).asking) (ordered o).to rs rs' ps ps' n
+    × (uncollected q' ≡ uncollected q ++ record { order = ordered o; how = manage_ending l.power (ordered o).asking (row_at (ordered o).to rs) (at l.places (ordered o).to) } ∷ [])
+    × Visited (λ power. manage_visit power (ordered o).asking) (ordered o).to rs rs' l l' n

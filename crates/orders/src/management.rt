@@ -1,6 +1,6 @@
 ghost use Rattle.std.specs.Prelude.{◌≡◌, ◌≤◌, slice_set};
 ghost use Rattle.values.specs.Tables.{table};
-ghost use Rattle.lines.specs.Lines.{at};
+ghost use Rattle.lines.specs.Lines.{meaning, at};
 ghost use Rattle.records.specs.Rows.{row_at};
 ghost use Rattle.records.specs.Records.{rows};
 ghost use Rattle.phases.specs.Visits.{Visited};
@@ -34,9 +34,8 @@ pub fn carry_out<L: Line>(
     line: &mut L,
     order: Order,
 ) -> Result<Nibble, Unanswered>
-    ensures power { L.power line.new ≡ L.power line.old }
     ensures ends { ending result ≡ manage_ending (L.power line.old) (ordered order).asking (row_at (ordered order).to (rows target.old)) (at (table (L.stations line.old)) (ordered order).to) }
-    ensures visited { Visited (manage_visit (L.power line.old) (ordered order).asking) (ordered order).to (rows target.old) (rows target.new) (table (L.stations line.old)) (table (L.stations line.new)) (requests_of (ending result)) }
+    ensures visited { Visited (λ power. manage_visit power (ordered order).asking) (ordered order).to (rows target.old) (rows target.new) (meaning (L.power line.old) (L.stations line.old)) (meaning (L.power line.new) (L.stations line.new)) (requests_of (ending result)) }
 {
     if !target.is_active(order.address()) {
         return Err(Unanswered::NotActive);
@@ -53,9 +52,8 @@ pub fn carry_out<L: Line>(
 
 /// Carries out the next order, if any, and puts its answer; how many requests were sent.
 pub fn manage<L: Line>(target: &mut Rows, line: &mut L, queues: &mut Queues) -> u32
-    ensures power { L.power line.new ≡ L.power line.old }
     ensures few { result ≤ 1 }
-    ensures managed { Managed (L.power line.old) (next_order queues.old) queues.old queues.new (rows target.old) (rows target.new) (table (L.stations line.old)) (table (L.stations line.new)) result }
+    ensures managed { Managed (next_order queues.old) queues.old queues.new (rows target.old) (rows target.new) (meaning (L.power line.old) (L.stations line.old)) (meaning (L.power line.new) (L.stations line.new)) result }
     ensures served { Served queues.old queues.new }
 {
     let Some(order) = queues.next() else {

@@ -1,5 +1,5 @@
 ghost use Rattle.std.specs.Prelude.{◌≡◌, ◌≤◌};
-ghost use Rattle.values.specs.Tables.{table};
+ghost use Rattle.lines.specs.Lines.{meaning};
 ghost use Rattle.records.specs.Rows.{row_at};
 ghost use Rattle.records.specs.Records.{rows};
 ghost use Rattle.phases.specs.Visits.{Visited, AllVisited};
@@ -27,8 +27,7 @@ pub fn is_admissible(mode: Mode, target: &Rows, address: Address) -> bool
 
 /// Sets PI to PP and sends it; where a nibble comes, the address joins LAS.
 pub fn enter<L: Line>(target: &mut Rows, line: &mut L, address: ModuleAddress)
-    ensures power { L.power line.new ≡ L.power line.old }
-    ensures visited { Visited (enter_visit (L.power line.old)) address.value (rows target.old) (rows target.new) (table (L.stations line.old)) (table (L.stations line.new)) 1 }
+    ensures visited { Visited enter_visit address.value (rows target.old) (rows target.new) (meaning (L.power line.old) (L.stations line.old)) (meaning (L.power line.new) (L.stations line.new)) 1 }
 {
     let at = Address::from(address);
     let entry = target.entry(at);
@@ -57,11 +56,10 @@ pub fn enter_admissible<L: Line>(
     line: &mut L,
     address: Address,
 ) -> u32
-    ensures power { L.power line.new ≡ L.power line.old }
     ensures few { result ≤ 1 }
-    ensures visited { Visited (admit_visit mode (L.power line.old) address.value) address.value (rows target.old) (rows target.new) (table (L.stations line.old)) (table (L.stations line.new)) result }
+    ensures visited { Visited (λ power. admit_visit mode power address.value) address.value (rows target.old) (rows target.new) (meaning (L.power line.old) (L.stations line.old)) (meaning (L.power line.new) (L.stations line.new)) result }
 {
-    let Ok(to) = ModuleAddress::try_from(u32::from(address)) else {
+    let Ok(to) = ModuleAddress::try_from(address) else {
         return 0;
     };
     if !is_admissible(mode, target, address) {
@@ -90,9 +88,8 @@ impl Visitor for Activator {
 
 /// Enters every address that is detected and admissible, lowest first; how many requests were sent.
 pub fn activate<L: Line>(mode: Mode, target: &mut Rows, line: &mut L) -> u32
-    ensures power { L.power line.new ≡ L.power line.old }
     ensures few { result ≤ 31 }
-    ensures visited { AllVisited (activate_visit mode (L.power line.old)) (rows target.old) (rows target.new) (table (L.stations line.old)) (table (L.stations line.new)) result }
+    ensures visited { AllVisited (activate_visit mode) (rows target.old) (rows target.new) (meaning (L.power line.old) (L.stations line.old)) (meaning (L.power line.new) (L.stations line.new)) result }
 {
     visit_all(&Activator { mode }, target, line)
 }

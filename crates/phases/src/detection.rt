@@ -1,5 +1,5 @@
 ghost use Rattle.std.specs.Prelude.{◌≡◌, ◌≤◌};
-ghost use Rattle.values.specs.Tables.{table};
+ghost use Rattle.lines.specs.Lines.{meaning};
 ghost use Rattle.records.specs.Records.{rows};
 ghost use Rattle.phases.specs.Visits.{AllVisited};
 ghost use Rattle.phases.specs.Detection.{detect_visit};
@@ -33,9 +33,8 @@ impl Visitor for Detector {
 
 /// Detection at all addresses, lowest first; how many requests were sent.
 pub fn detect<L: Line>(target: &mut Rows, line: &mut L) -> u32
-    ensures power { L.power line.new ≡ L.power line.old }
     ensures few { result ≤ 64 }
-    ensures visited { AllVisited (λ a. detect_visit (L.power line.old)) (rows target.old) (rows target.new) (table (L.stations line.old)) (table (L.stations line.new)) result }
+    ensures visited { AllVisited (λ power a. detect_visit power) (rows target.old) (rows target.new) (meaning (L.power line.old) (L.stations line.old)) (meaning (L.power line.new) (L.stations line.new)) result }
 {
     visit_all(&Detector, target, line)
 }

@@ -1,5 +1,5 @@
 ghost use Rattle.std.specs.Prelude.{◌≡◌, ◌≤◌, slice_set};
-ghost use Rattle.values.specs.Tables.{table};
+ghost use Rattle.lines.specs.Lines.{meaning};
 ghost use Rattle.records.specs.Rows.{row_at};
 ghost use Rattle.records.specs.Records.{rows};
 ghost use Rattle.phases.specs.Visits.{AllVisited};
@@ -54,7 +54,7 @@ impl Visitor for Exchanger {
     ghost visiting = { λ _ power a. exchange_visit power };
 
     fn visit<L: Line>(&self, target: &mut Rows, line: &mut L, address: Address) -> u32 {
-        let Ok(to) = ModuleAddress::try_from(u32::from(address)) else {
+        let Ok(to) = ModuleAddress::try_from(address) else {
             return 0;
         };
         if !target.is_active(address) {
@@ -78,9 +78,8 @@ impl Visitor for Exchanger {
 
 /// Data exchange with every active address, lowest first; how many requests were sent.
 pub fn exchange<L: Line>(target: &mut Rows, line: &mut L) -> u32
-    ensures power { L.power line.new ≡ L.power line.old }
     ensures few { result ≤ 31 }
-    ensures visited { AllVisited (λ a. exchange_visit (L.power line.old)) (rows target.old) (rows target.new) (table (L.stations line.old)) (table (L.stations line.new)) result }
+    ensures visited { AllVisited (λ power a. exchange_visit power) (rows target.old) (rows target.new) (meaning (L.power line.old) (L.stations line.old)) (meaning (L.power line.new) (L.stations line.new)) result }
 {
     visit_all(&Exchanger, target, line)
 }

@@ -1,6 +1,6 @@
 ghost use Rattle.std.specs.Prelude.{◌≡◌, ◌≤◌, ℕ, Bool};
-ghost use Rattle.values.specs.Tables.{table};
 ghost use Rattle.stations.specs.Stations.{Place};
+ghost use Rattle.lines.specs.Lines.{meaning};
 ghost use Rattle.records.specs.Rows.{Row};
 ghost use Rattle.records.specs.Records.{rows};
 ghost use Rattle.phases.specs.Visits.{Visit, Visited, AllVisited};
@@ -16,16 +16,14 @@ pub trait Visitor {
 
     /// Visits one address; how many requests were sent.
     fn visit<L: Line>(&self, target: &mut Rows, line: &mut L, address: Address) -> u32
-        ensures power { L.power line.new ≡ L.power line.old }
         ensures few { result ≤ 2 }
-        ensures visited { Visited (visiting self.now (L.power line.old) address.value) address.value (rows target.old) (rows target.new) (table (L.stations line.old)) (table (L.stations line.new)) result };
+        ensures visited { Visited (λ power. visiting self.now power address.value) address.value (rows target.old) (rows target.new) (meaning (L.power line.old) (L.stations line.old)) (meaning (L.power line.new) (L.stations line.new)) result };
 }
 
 /// Visits every address, lowest first; how many requests were sent.
 pub fn visit_all<V: Visitor, L: Line>(visitor: &V, target: &mut Rows, line: &mut L) -> u32
-    ensures power { L.power line.new ≡ L.power line.old }
     ensures few { result ≤ 64 }
-    ensures visited { AllVisited (V.visiting visitor.now (L.power line.old)) (rows target.old) (rows target.new) (table (L.stations line.old)) (table (L.stations line.new)) result }
+    ensures visited { AllVisited (V.visiting visitor.now) (rows target.old) (rows target.new) (meaning (L.power line.old) (L.stations line.old)) (meaning (L.power line.new) (L.stations line.new)) result }
 {
     let mut sent = 0;
     for a in 0..32u32 {

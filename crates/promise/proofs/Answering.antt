@@ -9,7 +9,8 @@ use Rattle.values.specs.Refusals.{Outcome, gives, refuses_for, accepts}
 use Rattle.telegrams.specs.Requests.{Sent}
 use Rattle.orders.specs.Orders.{Told}
 use Rattle.master.specs.Placing.{is_normal}
-use Rattle.master.specs.Cycles.{Card, Meaning, new_card, beginning, exchange, running, cycle}
+use Rattle.lines.specs.Lines.{Meaning}
+use Rattle.master.specs.Cycles.{Card, new_card, beginning, exchange, running, cycle}
 use Rattle.promise.specs.Successions.{Placement, order_from, Call, placing, Turn, cycling, calling, placing_outcome, called, after}
 use Rattle.promise.specs.Answering.{order_in, accepted_by_call, accepted_by, put_by, answered_by, collected_by_call, collected_by, FirstCome, Numbered, is_normal_cycle, numbered_cycles, AnswersIt, InTurn, AnsweredInTurn}
 use Rattle.promise.proofs.Queues.{Room, Puts, answer_to, cycle_puts, idle_puts, normal_puts, call_serves, room_cycle, room_call, room_after}

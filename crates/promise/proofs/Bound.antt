@@ -5,7 +5,7 @@ use Rattle.std.proofs.ByRecursion.{All-drop}
 use Rattle.std.proofs.lemmas.Bool.{and_from, false≢true}
 use Rattle.telegrams.specs.Requests.{read_io, read_id, write_parameter}
 use Rattle.stations.specs.Stations.{State, Place, occupied, with_parameter}
-use Rattle.lines.specs.Lines.{at}
+use Rattle.lines.specs.Lines.{Meaning, at}
 use Rattle.records.specs.Rows.{Pair, Row, row_at}
 use Rattle.phases.specs.Visits.{Visit, left_alone}
 use Rattle.phases.specs.Detection.{found, detect_visit}
@@ -13,7 +13,7 @@ use Rattle.phases.specs.Activation.{admissible, joining, enter_visit, activate_v
 use Rattle.search.specs.Steps.{seek}
 use Rattle.master.specs.declared.master.Phase.{Phase}
 use Rattle.master.specs.declared.master.Phase.TheVariants.{Offline, Detection, Activation, Normal}
-use Rattle.master.specs.Cycles.{Card, Meaning, Scene, new_card, beginning, everywhere, phased, held_off, stay_offline, run, cycle}
+use Rattle.master.specs.Cycles.{Card, Scene, new_card, beginning, everywhere, phased, held_off, stay_offline, run, cycle}
 use Rattle.promise.specs.Successions.{Turn, cycling, calling, called, after, Met, cycles}
 use Rattle.promise.specs.Waiting.{done, sent_to, exchanges, resets, codes_of, with_inputs, Admitted, Stays, Unaltered, LeftInPlace, Exchanged, WaitingBound}
 use Rattle.promise.proofs.Sees.{Moment, Sees, visiting, entering, sees_beginning, sees_phased, sees_visit, first_moment}

@@ -7,7 +7,7 @@ use Rattle.std.proofs.lemmas.List.{append-nil, length-append}
 use Rattle.std.proofs.lemmas.Bool.{cases_eq, cases_lt, cond-true, cond-false, cond_both, eq-eqb, ne_eqb}
 use Rattle.telegrams.specs.Requests.{Asking, Sent, data_exchange}
 use Rattle.stations.specs.Stations.{Place}
-use Rattle.lines.specs.Lines.{at}
+use Rattle.lines.specs.Lines.{Meaning, at}
 use Rattle.records.specs.Rows.{Row, new_row, row_at}
 use Rattle.records.specs.declared.record.Mode.{Mode}
 use Rattle.phases.specs.Visits.{Visit, left_alone, addressed, sent_below}
@@ -17,7 +17,7 @@ use Rattle.orders.specs.Management.{manage_visit}
 use Rattle.search.specs.Steps.{Stage, seek, name, enter}
 use Rattle.search.specs.Searches.{search_visit, taken_by}
 use Rattle.master.specs.declared.master.Phase.TheVariants.{Normal}
-use Rattle.master.specs.Cycles.{Card, Meaning, Scene, new_card, beginning, everywhere, only, visit_made, exchange, carry_out, manage_by, manage, search_on, run, running, cycle}
+use Rattle.master.specs.Cycles.{Card, Scene, new_card, beginning, everywhere, only, visit_made, exchange, carry_out, manage_by, manage, search_on, run, running, cycle}
 use Rattle.promise.specs.Successions.{Turn, after}
 use Rattle.promise.specs.Waiting.{sent_to, exchanges}
 use Rattle.promise.specs.Once.{OnceEach}

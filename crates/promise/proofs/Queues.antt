@@ -11,7 +11,8 @@ use Rattle.orders.specs.Orders.{Told}
 use Rattle.master.specs.Placing.{is_normal}
 use Rattle.master.specs.declared.master.Phase.{Phase}
 use Rattle.master.specs.declared.master.Phase.TheVariants.{Offline, Detection, Activation, Normal}
-use Rattle.master.specs.Cycles.{Control, Card, Meaning, Scene, with_control, beginning, everywhere, exchange, ending_at, carry_out, manage_by, manage, search_on, stay_offline, run, running, cycle}
+use Rattle.lines.specs.Lines.{Meaning}
+use Rattle.master.specs.Cycles.{Control, Card, Scene, with_control, beginning, everywhere, exchange, ending_at, carry_out, manage_by, manage, search_on, stay_offline, run, running, cycle}
 use Rattle.promise.specs.Successions.{order_from, Call, placing, collecting, writing_outputs, reading_inputs, reading_lists, setting_mode, setting_offline, editing, projecting_all, Turn, cycling, calling, placing_outcome, waiting_after, with_queues, called, after}
 use Rattle.promise.specs.Answering.{order_in, accepted_by_call, put_by, first_of, collected_by_call}
 

@@ -4,13 +4,13 @@ use Rattle.std.proofs.lemmas.List.{append-nil}
 use Rattle.values.proofs.Tables.{at_table}
 use Rattle.telegrams.specs.Requests.{Asking}
 use Rattle.stations.specs.Stations.{Place, vacant}
-use Rattle.lines.specs.Lines.{at}
+use Rattle.lines.specs.Lines.{Meaning, at}
 use Rattle.records.specs.Rows.{Row, row_at, new_row}
 use Rattle.records.specs.declared.record.Mode.{Mode}
 use Rattle.phases.specs.Visits.{Visit, left_alone, sent_below}
 use Rattle.search.specs.Steps.{Stage}
 use Rattle.master.specs.declared.master.Phase.{Phase}
-use Rattle.master.specs.Cycles.{Card, Meaning, Scene, beginning, everywhere, visit_made, stepping, phased}
+use Rattle.master.specs.Cycles.{Card, Scene, beginning, everywhere, visit_made, stepping, phased}
 use Rattle.promise.specs.Waiting.{sent_to}
 use Rattle.promise.proofs.Sending.{sent-to-append, sent_to_below}
 

@@ -9,7 +9,7 @@ use Rattle.std.specs.List.{list_all}
 use Rattle.values.proofs.Tests.{list_all-at_place}
 use Rattle.telegrams.specs.Requests.{Asking, Sent}
 use Rattle.stations.specs.Stations.{State, Place, vacant, occupied}
-use Rattle.lines.specs.Lines.{at}
+use Rattle.lines.specs.Lines.{Meaning, at}
 use Rattle.records.specs.Rows.{Pair, Row, row_at, same_codes}
 use Rattle.records.specs.Edits.{projecting}
 use Rattle.records.specs.declared.record.Mode.{Mode}
@@ -22,7 +22,7 @@ use Rattle.search.specs.Searches.{search_visit, taken_by}
 use Rattle.master.specs.Placing.{is_normal}
 use Rattle.master.specs.declared.master.Phase.{Phase}
 use Rattle.master.specs.declared.master.Phase.TheVariants.{Offline, Detection, Activation, Normal}
-use Rattle.master.specs.Cycles.{Card, Meaning, Scene, new_control, new_card, beginning, visit_made, only, exchange, run, running, everywhere, manage_by, manage, search_on, stay_offline, cycle}
+use Rattle.master.specs.Cycles.{Card, Scene, new_control, new_card, beginning, visit_made, only, exchange, run, running, everywhere, manage_by, manage, search_on, stay_offline, cycle}
 use Rattle.promise.specs.Successions.{Turn, cycling, calling, setting_mode, editing, called, after, Met, cycles}
 use Rattle.promise.specs.Waiting.{sent_to, exchanges, resets, codes_of, ProjectedSo, Stays, StaysPlugged, Unaltered, LeftInPlace, row_met, done}
 use Rattle.promise.proofs.Bound.{waiting_bound}

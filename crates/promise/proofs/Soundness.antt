@@ -7,7 +7,7 @@ use Rattle.values.specs.Refusals.{Outcome, gives, refuses, refuses_for}
 use Rattle.values.proofs.Tables.{at_table}
 use Rattle.telegrams.specs.Requests.{Asking, Sent, Heard, write_parameter, resetting, nibble, silence, disturbed}
 use Rattle.stations.specs.Stations.{Place}
-use Rattle.lines.specs.Lines.{at}
+use Rattle.lines.specs.Lines.{Meaning, at}
 use Rattle.records.specs.Rows.{Row, row_at, new_row, is_module_address}
 use Rattle.records.specs.declared.record.Mode.{Mode}
 use Rattle.phases.specs.Visits.{Visit, left_alone}
@@ -19,7 +19,7 @@ use Rattle.search.specs.Steps.{Stage, seek, name, enter, pick, step_after}
 use Rattle.search.specs.Searches.{search_visit, taken_by, deciding, next_step}
 use Rattle.master.specs.declared.master.Phase.{Phase}
 use Rattle.master.specs.declared.master.Phase.TheVariants.{Offline, Detection, Activation, Normal}
-use Rattle.master.specs.Cycles.{Card, Meaning, Scene, new_control, new_card, beginning, everywhere, exchange, carry_out, manage_by, manage, search_on}
+use Rattle.master.specs.Cycles.{Card, Scene, new_control, new_card, beginning, everywhere, exchange, carry_out, manage_by, manage, search_on}
 use Rattle.master.specs.Cycles.{phased, held_off, stay_offline, run, cycle}
 use Rattle.promise.specs.Successions.{Placement, parameter, reset, order_from, Call, Turn, cycling, calling, waiting_after, placing_outcome, called, turned, after}
 use Rattle.promise.specs.Successions.{placing, collecting, writing_outputs, reading_inputs, reading_lists, setting_mode, setting_offline, editing, projecting_all}

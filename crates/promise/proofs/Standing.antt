@@ -23,7 +23,8 @@ use Rattle.search.specs.Steps.{Stage, seek, name, enter}
 use Rattle.search.specs.Searches.{sought, called as NamedAgain, search_visit, taken_by}
 use Rattle.master.specs.declared.master.Phase.{Phase}
 use Rattle.master.specs.declared.master.Phase.TheVariants.{Offline, Detection, Activation, Normal}
-use Rattle.master.specs.Cycles.{Card, Meaning, Scene, new_control, new_card, beginning, everywhere, only, visit_made, carry_out, manage_by, manage, search_on, stay_offline, run, running, cycle}
+use Rattle.lines.specs.Lines.{Meaning}
+use Rattle.master.specs.Cycles.{Card, Scene, new_control, new_card, beginning, everywhere, only, visit_made, carry_out, manage_by, manage, search_on, stay_offline, run, running, cycle}
 use Rattle.promise.specs.Successions.{Placement, parameter, reset, order_from, Call, placing, collecting, writing_outputs, reading_inputs, reading_lists, setting_mode, setting_offline, editing, projecting_all, Turn, cycling, calling, all_edited, called, after as later}
 use Rattle.promise.specs.Waiting.{exchanges}
 use Rattle.promise.specs.Answering.{order_in, accepted_by_call, put_by}

@@ -7,7 +7,8 @@ use Rattle.values.specs.Refusals.{Outcome, gives, refuses_for, accepts}
 use Rattle.telegrams.specs.Requests.{Sent}
 use Rattle.orders.specs.Orders.{Told}
 use Rattle.master.specs.Placing.{is_normal}
-use Rattle.master.specs.Cycles.{Card, Meaning, beginning, exchange, ending_at, running, cycle}
+use Rattle.lines.specs.Lines.{Meaning}
+use Rattle.master.specs.Cycles.{Card, beginning, exchange, ending_at, running, cycle}
 use Rattle.promise.specs.Successions.{Placement, order_from, Call, placing, collecting, writing_outputs, reading_inputs, reading_lists, setting_mode, setting_offline, editing, projecting_all, Turn, cycling, calling, placing_outcome, called, after, Met}
 use Rattle.promise.specs.Waiting.{done}
 

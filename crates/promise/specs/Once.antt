@@ -1,7 +1,8 @@
 -- A normal cycle exchanges exactly once with each address that is active at its start, and with no other. It sends at most 33 requests.
 use Rattle.std.specs.Prelude.{◌≡◌, ℕ, ◌≤◌, cond, [], ◌∷◌, length}
 use Rattle.records.specs.Rows.{row_at}
-use Rattle.master.specs.Cycles.{Card, Meaning, cycle}
+use Rattle.lines.specs.Lines.{Meaning}
+use Rattle.master.specs.Cycles.{Card, cycle}
 use Rattle.promise.specs.Waiting.{sent_to, exchanges}
 
 pub record OnceEach (c : Card) (line : Meaning) : Type 0 where

@@ -2,7 +2,8 @@
 -- Mode, offline request, phase, lists, codes and ODI are what the rules give from new by the calls and by the line as each cycle met it: the
 -- statements speak of `after p new`, never of what a program holds.
 use Rattle.std.specs.Prelude.{◌≡◌, List, ◌∷◌, ◌++◌}
-use Rattle.master.specs.Cycles.{Card, Meaning, running}
+use Rattle.lines.specs.Lines.{Meaning}
+use Rattle.master.specs.Cycles.{Card, running}
 use Rattle.master.specs.declared.master.Phase.TheVariants.{Normal}
 use Rattle.promise.specs.Successions.{Placement, placing, Turn, cycling, calling, after}
 use Rattle.promise.specs.Waiting.{WaitingBound}

@@ -12,7 +12,8 @@ use Rattle.records.specs.declared.record.Mode.TheVariants.{Configuration}
 use Rattle.orders.specs.Orders.{reset_ordered, Told}
 use Rattle.orders.specs.Queues.{orders_after}
 use Rattle.master.specs.Placing.{place_outcome}
-use Rattle.master.specs.Cycles.{Control, Card, Meaning, with_rows, with_mode, with_control, cycle}
+use Rattle.lines.specs.Lines.{Meaning}
+use Rattle.master.specs.Cycles.{Control, Card, with_rows, with_mode, with_control, cycle}
 
 -- an order as the controller asks for it, with any numbers
 pub data Placement : Type 0 where

@@ -1,6 +1,7 @@
 -- A run whose plant leaves the line as it is.
 use Rattle.std.proofs.Common.{◌≡◌, List, ◌∷◌, refl, ap, ◌∙◌}
-use Rattle.master.specs.Cycles.{Card, Meaning}
+use Rattle.lines.specs.Lines.{Meaning}
+use Rattle.master.specs.Cycles.{Card}
 use Rattle.promise.specs.Successions.{Turn}
 use Rattle.runs.specs.Runs.{turn_of, Came, comes_to, Ran, nothing, one, undisturbed, line_undisturbed}
 use Rattle.runs.specs.declared.call.Call.{Call}

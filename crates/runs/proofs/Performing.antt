@@ -4,7 +4,8 @@ use Rattle.values.proofs.Tables.{same_table}
 use Rattle.lists.specs.Members.{has}
 use Rattle.records.specs.Rows.{row_at}
 use Rattle.master.specs.Listings.{Listed}
-use Rattle.master.specs.Cycles.{Card, Meaning, control_of}
+use Rattle.lines.specs.Lines.{Meaning}
+use Rattle.master.specs.Cycles.{Card, control_of}
 use Rattle.master.specs.declared.master.Listing.{Listing}
 use Rattle.master.specs.declared.master.Master.{Master}
 use Rattle.promise.specs.Successions.{reading_lists, Turn, calling, turned}

@@ -5,7 +5,8 @@ use Rattle.queues.specs.Fifo.{held, room}
 use Rattle.orders.specs.Orders.{ordered, told}
 use Rattle.orders.specs.Queues.{waiting, uncollected}
 use Rattle.orders.specs.declared.pair.Queues.{Queues}
-use Rattle.master.specs.Cycles.{Card, Meaning, control_of, card_of, new_control, new_card}
+use Rattle.lines.specs.Lines.{Meaning}
+use Rattle.master.specs.Cycles.{Card, control_of, card_of, new_control, new_card}
 use Rattle.master.specs.declared.master.Master.{Master}
 use Rattle.promise.specs.Successions.{Turn, turned}
 use Rattle.runs.specs.Runs.{turn_of, Came, came, comes_to, line_left, Performed, Ran, nothing, one, Run}

@@ -12,7 +12,8 @@ use Rattle.records.specs.declared.record.Mode.{Mode}
 use Rattle.records.specs.declared.record.Mode.TheVariants.{Configuration}
 use Rattle.queues.specs.Fifo.{take_outcome}
 use Rattle.orders.specs.Orders.{Told, told}
-use Rattle.master.specs.Cycles.{Control, Card, Meaning, new_card, running, cycle}
+use Rattle.lines.specs.Lines.{Meaning}
+use Rattle.master.specs.Cycles.{Control, Card, new_card, running, cycle}
 use Rattle.master.specs.Placing.{is_normal}
 use Rattle.master.specs.declared.master.Listing.{Listing}
 use Rattle.master.specs.declared.master.Phase.{Phase}

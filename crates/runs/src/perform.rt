@@ -1,5 +1,6 @@
 ghost use Rattle.orders.specs.Queues.{OnlyPut};
-ghost use Rattle.master.specs.Cycles.{card_of, meaning};
+ghost use Rattle.lines.specs.Lines.{meaning};
+ghost use Rattle.master.specs.Cycles.{card_of};
 ghost use Rattle.runs.specs.Runs.{came, Performed};
 
 use super::call::{Call, Given, Outcome};

@@ -1,5 +1,5 @@
 ghost use Rattle.std.specs.Prelude.{◌≡◌};
-ghost use Rattle.master.specs.Cycles.{Meaning, meaning};
+ghost use Rattle.lines.specs.Lines.{Meaning, meaning};
 
 use lines::line::Line;
 

@@ -1,5 +1,5 @@
 ghost use Rattle.std.specs.Prelude.{◌≡◌, min, map, length, take, drop};
-ghost use Rattle.master.specs.Cycles.{meaning};
+ghost use Rattle.lines.specs.Lines.{meaning};
 ghost use Rattle.runs.specs.Runs.{came, Run};
 
 use super::call::{Call, Outcome};

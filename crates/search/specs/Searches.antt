@@ -3,7 +3,7 @@
 use Rattle.std.specs.Prelude.{◌≡◌, ℕ, Bool, List, [], ◌∷◌}
 use Rattle.telegrams.specs.Requests.{Heard, nibble, silence, disturbed, read_io, read_id}
 use Rattle.stations.specs.Stations.{Place, after, reply}
-use Rattle.lines.specs.Lines.{at}
+use Rattle.lines.specs.Lines.{Meaning, at}
 use Rattle.records.specs.Rows.{Row, row_at}
 use Rattle.records.specs.declared.record.Mode.{Mode}
 use Rattle.phases.specs.Activation.{admissible, admit_visit}
@@ -51,6 +51,6 @@ abbrev pub next_step : Mode → Bool → Stage → ℕ → Row → Place → Sta
 next_step mode power s b r p = step_after s b (deciding power s p) (admissible mode b (search_visit mode power s b r p).row)
 
 -- the search was at step s; it is at step s' afterwards, and n requests were sent
-pub record Searched (mode : Mode) (power : Bool) (s s' : Stage) (rs rs' : List Row) (ps ps' : List Place) (n : ℕ) : Type 0 where
-  pub steps : s' ≡ next_step mode power s (taken_by rs s) (row_at (taken_by rs s) rs) (at ps (taken_by rs s))
-  pub visited : Visited (search_visit mode power s (taken_by rs s)) (taken_by rs s) rs rs' ps ps' n
+pub record Searched (mode : Mode) (s s' : Stage) (rs rs' : List Row) (l l' : Meaning) (n : ℕ) : Type 0 where
+  pub steps : s' ≡ next_step mode l.power s (taken_by rs s) (row_at (taken_by rs s) rs) (at l.places (taken_by rs s))
+  pub visited : Visited (λ power. search_visit mode power s (taken_by rs s)) (taken_by rs s) rs rs' l l' n

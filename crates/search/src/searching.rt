@@ -1,7 +1,7 @@
 ghost use Rattle.std.specs.Prelude.{◌≡◌, ◌≤◌, slice_set};
 ghost use Rattle.values.specs.Tables.{table};
 ghost use Rattle.telegrams.specs.Requests.{heard};
-ghost use Rattle.lines.specs.Lines.{at};
+ghost use Rattle.lines.specs.Lines.{meaning, at};
 ghost use Rattle.records.specs.Rows.{row_at};
 ghost use Rattle.records.specs.Records.{rows};
 ghost use Rattle.phases.specs.Exchange.{lost};
@@ -30,9 +30,8 @@ fn lose(target: &mut Rows, address: Address)
 
 /// Reads the I/O code at an address.
 fn seek_at<L: Line>(target: &mut Rows, line: &mut L, address: Address) -> Reply
-    ensures power { L.power line.new ≡ L.power line.old }
     ensures reply { heard result ≡ deciding (L.power line.old) (seek address.value) (at (table (L.stations line.old)) address.value) }
-    ensures visited { Visited (seek_visit (L.power line.old)) address.value (rows target.old) (rows target.new) (table (L.stations line.old)) (table (L.stations line.new)) 1 }
+    ensures visited { Visited seek_visit address.value (rows target.old) (rows target.new) (meaning (L.power line.old) (L.stations line.old)) (meaning (L.power line.new) (L.stations line.new)) 1 }
 {
     let reply = line.carry(Request::ReadIo(address));
     match reply {
@@ -45,9 +44,8 @@ fn seek_at<L: Line>(target: &mut Rows, line: &mut L, address: Address) -> Reply
 // Apart from `seek_at`, since the row keeps nothing of an I/O code that came, and both codes here.
 /// Reads the ID code at an address that gave its I/O code.
 fn name_at<L: Line>(target: &mut Rows, line: &mut L, address: Address, io: Nibble) -> Reply
-    ensures power { L.power line.new ≡ L.power line.old }
     ensures reply { heard result ≡ deciding (L.power line.old) (name address.value io.value) (at (table (L.stations line.old)) address.value) }
-    ensures visited { Visited (naming_visit (L.power line.old) io.value) address.value (rows target.old) (rows target.new) (table (L.stations line.old)) (table (L.stations line.new)) 1 }
+    ensures visited { Visited (λ power. naming_visit power io.value) address.value (rows target.old) (rows target.new) (meaning (L.power line.old) (L.stations line.old)) (meaning (L.power line.new) (L.stations line.new)) 1 }
 {
     let reply = line.carry(Request::ReadId(address));
     match reply {
@@ -63,9 +61,8 @@ fn name_at<L: Line>(target: &mut Rows, line: &mut L, address: Address, io: Nibbl
 
 /// One step of the search: the next step, and how many requests were sent.
 pub fn search<L: Line>(mode: Mode, target: &mut Rows, line: &mut L, step: Step) -> (Step, u32)
-    ensures power { L.power line.new ≡ L.power line.old }
     ensures few { result.1 ≤ 1 }
-    ensures searched { Searched mode (L.power line.old) (stage step) (stage result.0) (rows target.old) (rows target.new) (table (L.stations line.old)) (table (L.stations line.new)) result.1 }
+    ensures searched { Searched mode (stage step) (stage result.0) (rows target.old) (rows target.new) (meaning (L.power line.old) (L.stations line.old)) (meaning (L.power line.new) (L.stations line.new)) result.1 }
 {
     let (at, reply, sent) = match step {
         Step::Seek(from) => {

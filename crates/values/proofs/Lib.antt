@@ -1,4 +1,5 @@
 pub mod Arrays
+pub mod Filling
 pub mod Outcomes
 pub mod Tables
 pub mod Tests

@@ -36,17 +36,13 @@ cause_of NoAnswer = None
 cause_of BadImage = None
 cause_of (BadTelegram c) = Some c
 
--- its number, which is 0 where there is none
+-- the number of a cause, which is 0 where there is none
+abbrev pub cause_or_0 : Option Cause → ℕ
+cause_or_0 None = 0
+cause_or_0 (Some c) = cause_number c
+
 abbrev pub caused : Refusal → ℕ
-caused BadAddress = 0
-caused BadValue = 0
-caused WrongPhase = 0
-caused NotActive = 0
-caused QueueFull = 0
-caused AddressZeroDetected = 0
-caused NoAnswer = 0
-caused BadImage = 0
-caused (BadTelegram c) = cause_number c
+caused e = cause_or_0 (cause_of e)
 
 -- What a call comes to: it gives something, or refuses with a number and a cause
 pub data Outcome (A : Type 0) : Type 0 where

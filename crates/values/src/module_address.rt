@@ -1,5 +1,6 @@
 ghost use Rattle.std.specs.Prelude.{◌≡◌, ◌+◌, ◌%◌, ◌<◌};
 
+use super::address::Address;
 use super::refusal::Refusal;
 
 /// An address 1 to 31: one that a module is exchanged at.
@@ -40,5 +41,18 @@ impl TryFrom<u32> for ModuleAddress {
             return Err(Refusal::BadAddress);
         }
         Ok(ModuleAddress { value: n as u8 })
+    }
+}
+
+impl TryFrom<Address> for ModuleAddress {
+    ghost use Rattle.values.specs.Refusals.{outcome};
+    ghost use Rattle.values.specs.Ranges.{module_address_from};
+
+    type Error = Refusal;
+
+    ghost try_from_gives = { λ a r. outcome (λ x. x.value) r ≡ module_address_from a.value };
+
+    fn try_from(address: Address) -> Result<ModuleAddress, Refusal> {
+        ModuleAddress::try_from(u32::from(address))
     }
 }

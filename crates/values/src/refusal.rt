@@ -75,7 +75,7 @@ impl From<Cause> for Refusal {
     }
 }
 
-/// The number, as it is printed everywhere: in hexadecimal.
+/// The number, as it is printed everywhere: in hexadecimal, where each has four digits.
 impl fmt::Display for Refusal {
     ghost output = { λ refusal. Some (digits 16 false (numbered refusal)) };
 

@@ -4,7 +4,7 @@ use Rattle.std.specs.Prelude.{◌≡◌, ℕ, ◌+◌, ◌-◌, ◌^◌, ◌<◌
 use Rattle.stations.specs.Stations.{State, Place, vacant, occupied}
 use Rattle.racks.specs.Racks.{station_at}
 use Rattle.racks.specs.declared.bench.BenchRack.{BenchRack}
-use Rattle.master.specs.Cycles.{Meaning, meaning}
+use Rattle.lines.specs.Lines.{Meaning, meaning}
 use Rattle.worst_case.specs.declared.Plugging.{Plugging}
 
 -- a module as it comes

@@ -1,6 +1,7 @@
 use Rattle.std.proofs.Common.{◌≡◌, ℕ, List, map, take, sym, ap, ◌∙◌, arith}
 use Rattle.std.proofs.lemmas.List.{take_all}
-use Rattle.master.specs.Cycles.{Meaning, meaning, new_card}
+use Rattle.lines.specs.Lines.{Meaning, meaning}
+use Rattle.master.specs.Cycles.{new_card}
 use Rattle.runs.specs.Runs.{came, undisturbed, line_undisturbed}
 use Rattle.runs.specs.Runs.{Logged}
 use Rattle.runs.proofs.Idling.{idle_run}

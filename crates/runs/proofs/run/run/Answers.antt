@@ -1,7 +1,8 @@
 use Rattle.std.proofs.Common.{◌≡◌, ℕ, ◌<◌, min, List, length, drop, ap, subst, arith}
 use Rattle.std.proofs.lemmas.List.{length-take, get_or-take}
 use Rattle.queues.specs.Fifo.{room}
-use Rattle.master.specs.Cycles.{card_of, meaning, new_card}
+use Rattle.lines.specs.Lines.{meaning}
+use Rattle.master.specs.Cycles.{card_of, new_card}
 use Rattle.runs.specs.declared.call.Call.{Call}
 use Rattle.runs.specs.declared.call.Call.TheVariants.{Cycle}
 use Rattle.runs.specs.Runs.{Logged}

@@ -1,5 +1,6 @@
 use Rattle.queues.specs.Fifo.{room}
-use Rattle.master.specs.Cycles.{card_of, meaning, new_card}
+use Rattle.lines.specs.Lines.{meaning}
+use Rattle.master.specs.Cycles.{card_of, new_card}
 use Rattle.runs.proofs.Running.{SoFar}
 use Rattle.runs.proofs.run.run.Given as goal
 

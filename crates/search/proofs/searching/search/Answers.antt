@@ -1,6 +1,6 @@
 use Rattle.std.proofs.Common.{◌≡◌, refl, arith}
-use Rattle.values.specs.Tables.{table}
 use Rattle.telegrams.specs.Requests.{heard}
+use Rattle.lines.specs.Lines.{meaning}
 use Rattle.records.specs.Records.{rows}
 use Rattle.records.proofs.Written.{rows_sized}
 use Rattle.search.specs.Steps.{stage}
@@ -13,8 +13,8 @@ returns-clause-searched g c =
     let before = c.args.target.now in
     let after = c.match-step.target in
     let step : c.match-step.step ≡ c.args.step = elim c.match-step.branch [ in-Seek w ↦ cc | in-Name w ↦ cc | in-Enter w ↦ cc ] in
-    let stepped : Stepped c.args.mode (g.L.Line.power c.args.line.now) (stage c.args.step) c.match-step.reply.0.value (heard c.match-step.reply.1) (rows before) (rows after)
-    (table (g.L.Line.stations c.args.line.now)) (table (g.L.Line.stations c.match-step.line)) c.match-step.reply.2 =
+    let stepped : Stepped c.args.mode (stage c.args.step) c.match-step.reply.0.value (heard c.match-step.reply.1) (rows before) (rows after)
+    (meaning (g.L.Line.power c.args.line.now) (g.L.Line.stations c.args.line.now)) (meaning (g.L.Line.power c.match-step.line) (g.L.Line.stations c.match-step.line)) c.match-step.reply.2 =
     elim c.match-step.branch [
       | in-Seek w ↦
           let seek = w.seek_at.ensures in
@@ -26,4 +26,4 @@ returns-clause-searched g c =
           let enter = w.enter_admissible.ensures in
           rw (w.reply-is, w.target-is, w.line-is, w.in-Enter.is) (record { taken = refl; decides = refl; visited = enter.visited })
     ] in
-    searched c.args.mode _ _ _ _ _ _ _ _ _ _ stepped (omega (arith, rows_sized before)) (cc)
+    searched c.args.mode _ _ _ _ _ _ _ _ _ stepped (omega (arith, rows_sized before)) (cc)

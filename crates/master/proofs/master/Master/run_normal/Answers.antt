@@ -12,5 +12,4 @@ returns-clause-became g c =
     normal_run _
     (length-table _) (length-table _) (length-table _) (length-table _) (taken_inside (rows c.manage-managed.new.target) c.args.self.now.step)
     c.mode-mode.ensures
-    exchanged.power managed.power searched.power
     managed.served exchanged.visited managed.managed searched.searched

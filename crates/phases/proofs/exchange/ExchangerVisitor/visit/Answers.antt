@@ -1,4 +1,3 @@
-use Rattle.values.specs.Tables.{table}
 use Rattle.records.specs.Records.{rows}
 use Rattle.phases.specs.Exchange.{exchange_visit}
 use Rattle.phases.proofs.Visits.{zero_unvisited, exchange_zero}
@@ -6,5 +5,4 @@ use Rattle.phases.proofs.exchange.ExchangerVisitor.visit.Goals as goal
 
 pub returns-in_default-clause-visited : goal.returns-in_default-clause-visited
 returns-in_default-clause-visited g c =
-    zero_unvisited (λ a. exchange_visit (g.L.Line.power c.args.line.now)) c.args.address.value c.from.result _ _ (rows c.args.target.now) (table (g.L.Line.stations c.args.line.now))
-    c.args.address.ok c.from.ensures c.in_default.ensures (exchange_zero _ c.args.target.now _)
+    zero_unvisited (λ power a. exchange_visit power) c.args.address.value _ _ (rows c.args.target.now) _ c.args.address.ok c.in_default.ensures (exchange_zero _ c.args.target.now _)

@@ -1,6 +1,6 @@
 -- A loop over the addresses that gives one entry after another its new value.
-use Rattle.std.proofs.Common.{◌≡◌, ℕ, ◌+◌, ◌<◌, List, length, get_or, set, sym, ap, ◌∙◌, arith}
-use Rattle.std.proofs.lemmas.Bool.{le-ltb, cond-false}
+use Rattle.std.proofs.Common.{◌≡◌, ℕ, ◌+◌, ◌<◌, ltb, List, length, get_or, set, sym, refl, ap, ◌∙◌, arith}
+use Rattle.std.proofs.lemmas.Bool.{cond_both, ltb-true}
 use Rattle.values.specs.Tables.{table}
 use Rattle.values.proofs.Tables.{filling, is_table, fill_more, fill_all, at_filling}
 
@@ -12,8 +12,13 @@ module _ {X : Type 0} (new : ℕ → X) (xs : List X) (d : X) where
   abbrev old : ℕ → X
   old k = get_or xs k d
 
+  -- a loop that begins at i, where those below keep their value
+  pub fill_starts_at : (i : ℕ) → ((k : ℕ) → k < i → new k ≡ old k) → length xs ≡ 32 → FilledBelow new xs d i xs
+  fill_starts_at i kept sized =
+      record { filled = is_table (filling i new old) xs d sized (λ k h. cond_both (ltb k i) (new k) (old k) (λ x. old k ≡ x) (λ below. sym (kept k (ltb-true k i below))) (λ _. refl)) }
+
   pub fill_starts : length xs ≡ 32 → FilledBelow new xs d 0 xs
-  fill_starts sized = record { filled = is_table (filling 0 new old) xs d sized (λ k h. sym (cond-false _ (new k) (old k) (le-ltb k 0 (omega arith)))) }
+  fill_starts sized = fill_starts_at 0 (λ k h. absurd (omega arith)) sized
 
   pub still_old : (i : ℕ) (xs' : List X) → i < 32 → FilledBelow new xs d i xs' → get_or xs' i d ≡ get_or xs i d
   still_old i xs' h below = ap (λ (l : List X). get_or l i d) below.filled ∙ at_filling new old i d h

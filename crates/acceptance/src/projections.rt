@@ -1,5 +1,6 @@
 //! What may be done with a projection and what it borrows. Each is the rightful twin of a misuse that `scripts/test-misuse` has the compiler refuse: the same lines in another order.
 use crate::script::one_module;
+use lines::line::Line;
 use master::master::Master;
 use orders::pair::Queues;
 use phases::offline::clear;
@@ -8,6 +9,7 @@ use records::projection::Projection;
 use records::record::{Mode, Record};
 use std::test::*;
 use values::address::Address;
+use values::refusal::Refusal;
 
 fn protected() -> Record {
     let mut record = Record::new();
@@ -37,6 +39,18 @@ fn close_then_run_a_part_of_the_cycle(rt: HostRuntime) {
     assert!(rt; record.rows.is_projected(Address::low(3)));
 }
 
+fn edit_close_and_run_a_cycle<L: Line>(
+    master: &mut Master,
+    line: &mut L,
+    queues: &mut Queues,
+) -> Result<(), Refusal> {
+    let mut projection = Projection::open(&mut master.table);
+    let edited = projection.unproject(3);
+    drop(projection);
+    master.cycle(line, queues);
+    edited
+}
+
 #[test]
 fn close_then_run_a_cycle(rt: HostRuntime) -> Result<(), Fail> {
     let Ok(mut rack) = BenchRack::open(&one_module().words) else {
@@ -44,10 +58,7 @@ fn close_then_run_a_cycle(rt: HostRuntime) -> Result<(), Fail> {
     };
     let mut master = Master::new();
     let mut queues = Queues::over(&mut [], &mut []);
-    let mut projection = Projection::open(&mut master.table);
-    let edited = projection.project(3, 7, 0, 5);
-    drop(projection);
-    master.cycle(&mut rack, &mut queues);
+    let edited = edit_close_and_run_a_cycle(&mut master, &mut rack, &mut queues);
     assert!(rt; edited.is_ok());
     Ok(())
 }

@@ -1,6 +1,6 @@
 //! Scripts of calls on a new master on an image rack, each call with what it is to come to.
 use master::cycle::Report;
-use master::master::{Listing, Master, Phase};
+use master::master::{Listing, Master};
 use orders::order::{Answer, Order, Unanswered};
 use orders::pair::Queues;
 use racks::image_rack::ImageRack;
@@ -128,13 +128,7 @@ fn listed(listing: Listing) -> [u32; 4] {
 }
 
 pub(crate) fn reported(report: Report) -> (char, u32) {
-    let letter = match report.phase {
-        Phase::Offline => 'O',
-        Phase::Detection => 'D',
-        Phase::Activation => 'A',
-        Phase::Normal => 'N',
-    };
-    (letter, report.requests)
+    (report.phase.letter(), report.requests)
 }
 
 fn ending(res: Result<Answer, Refusal>) -> Collected {

@@ -6,6 +6,7 @@ use values::address::Address;
 use values::module_address::ModuleAddress;
 
 /// LDS and LAS: the activated addresses are among the detected ones, and 0 is never activated.
+// Each a word, as the controller is given it, and written whole at each change.
 #[derive(Clone, Copy)]
 pub struct Lists {
     lds: u32,

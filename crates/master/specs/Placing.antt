@@ -4,10 +4,10 @@ use Rattle.std.specs.Prelude.{◌≡◌, ℕ, Bool, true, false, cond, List, len
 use Rattle.values.specs.declared.refusal.Refusal.{Refusal}
 use Rattle.values.specs.Refusals.{Outcome, gives, refuses, refuses_for, outcome}
 use Rattle.telegrams.specs.Requests.{Sent}
-use Rattle.queues.specs.Fifo.{held, room, UnchangedIfRefused}
+use Rattle.queues.specs.Fifo.{held, room, UnchangedIfRefused, OnlyPut}
 use Rattle.records.specs.Rows.{Row, row_at}
 use Rattle.records.specs.Records.{rows}
-use Rattle.orders.specs.Queues.{waiting, room_outcome, orders_after, OnlyPut}
+use Rattle.orders.specs.Queues.{waiting, room_outcome, orders_after}
 use Rattle.orders.specs.declared.pair.Queues.{Queues}
 use Rattle.master.specs.declared.master.Master.{Master}
 use Rattle.master.specs.declared.master.Phase.{Phase}

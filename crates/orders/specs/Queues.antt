@@ -1,10 +1,9 @@
 -- The two queues between controller and master: what each call does with the orders that wait, the answers that are uncollected, and the
 -- slices under them. An order is let in only where its answer will have room too: so an order that is carried out never loses its answer.
-use Rattle.std.specs.Prelude.{◌≡◌, ℕ, ◌+◌, cond, ◌&&◌, List, ◌∷◌, [], ◌++◌, map, nat_lt}
+use Rattle.std.specs.Prelude.{ℕ, ◌+◌, cond, ◌&&◌, List, ◌∷◌, [], ◌++◌, map, nat_lt}
 use Rattle.values.specs.Refusals.{Outcome, gives, refuses, refuses_for}
 use Rattle.telegrams.specs.Requests.{Sent}
-use Rattle.queues.specs.Fifo.{held, room, FreeWritten}
-use Rattle.queues.specs.declared.queue.Queue.{Queue}
+use Rattle.queues.specs.Fifo.{held, OnlyTaken, OnlyPut}
 use Rattle.orders.specs.Orders.{ordered, Told, told}
 use Rattle.orders.specs.declared.pair.Queues.{Queues}
 
@@ -24,19 +23,6 @@ room_outcome n order_room k answer_room =
 abbrev pub orders_after : Outcome (Unit {0}) → Sent → List Sent → List Sent
 orders_after (gives u) q waiting = waiting ++ q ∷ []
 orders_after (refuses_for n c) q waiting = waiting
-
--- Both queues keep their slices
-
--- elements were at most taken: the slice is as it was
-pub record OnlyTaken {T : Type 0} (q q' : Queue T) : Type 0 where
-  pub slots : q'.slots.now ≡ q.slots.now
-  pub lender : q'.slots.ghost_name ≡ q.slots.ghost_name
-
--- an element was at most put: no place of the slice was written but perhaps the one behind the newest element
-pub record OnlyPut {T : Type 0} (q q' : Queue T) : Type 0 where
-  pub slots : FreeWritten q q'
-  pub room : room q' ≡ room q
-  pub lender : q'.slots.ghost_name ≡ q.slots.ghost_name
 
 -- the master served the controller: it took orders, and put answers
 pub record Served (q q' : Queues) : Type 0 where

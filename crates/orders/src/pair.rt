@@ -1,9 +1,9 @@
 ghost use Rattle.std.specs.Prelude.{◌≡◌, [], map, length};
 ghost use Rattle.values.specs.Refusals.{outcome};
-ghost use Rattle.queues.specs.Fifo.{held, room, put_after, take_outcome, take_after, UnchangedIfRefused};
+ghost use Rattle.queues.specs.Fifo.{held, room, put_after, take_outcome, take_after, UnchangedIfRefused, OnlyTaken, OnlyPut};
 ghost use Rattle.orders.specs.Orders.{ordered};
 ghost use Rattle.orders.specs.Management.{next_order};
-ghost use Rattle.orders.specs.Queues.{room_outcome, orders_after, OnlyTaken, OnlyPut, Served};
+ghost use Rattle.orders.specs.Queues.{room_outcome, orders_after, Served};
 
 use super::order::{Answer, Order};
 use queues::queue::Queue;

@@ -1,8 +1,9 @@
-ghost use Rattle.std.specs.Prelude.{◌≡◌, ◌≤◌};
+ghost use Rattle.std.specs.Prelude.{◌≡◌, ◌≤◌, slice_set};
 ghost use Rattle.lines.specs.Lines.{meaning};
-ghost use Rattle.records.specs.Records.{rows};
+ghost use Rattle.records.specs.Rows.{row_at};
+ghost use Rattle.records.specs.Records.{pair_of, rows};
 ghost use Rattle.phases.specs.Visits.{AllVisited};
-ghost use Rattle.phases.specs.Detection.{detect_visit};
+ghost use Rattle.phases.specs.Detection.{found, detect_visit};
 
 use super::visitor::{Visitor, visit_all};
 use lines::line::Line;
@@ -10,6 +11,14 @@ use records::entry::{Codes, Entry};
 use records::rows::Rows;
 use telegrams::request::{Reply, Request};
 use values::address::Address;
+
+/// Puts an address into LDS with the codes that it gave.
+pub fn detect_at(target: &mut Rows, address: Address, cdi: Codes)
+    ensures { rows target.new ≡ slice_set (rows target.old) address.value (found (pair_of cdi) (row_at address.value (rows target.old))) }
+{
+    let entry = target.entry(address);
+    target.detect(address, Entry { cdi, ..entry });
+}
 
 /// Reads the codes at an address, and puts it into LDS where both come.
 #[derive(Clone, Copy)]
@@ -23,9 +32,7 @@ impl Visitor for Detector {
             return 1;
         };
         if let Reply::Answer(id) = line.carry(Request::ReadId(address)) {
-            let entry = target.entry(address);
-            let cdi = Codes { io, id };
-            target.detect(address, Entry { cdi, ..entry });
+            detect_at(target, address, Codes { io, id });
         }
         2
     }

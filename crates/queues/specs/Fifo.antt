@@ -62,3 +62,16 @@ FreeWritten q q' = KeptBut (free_place q) q.slots.now q'.slots.now
 
 abbrev pub slots_after : {T : Type 0} → Queue T → T → List T
 slots_after q x = cond (nat_lt (length (held q)) (room q)) (slice_set q.slots.now (free_place q) x) q.slots.now
+
+-- What every call keeps of the slice: where it is lent from, too
+
+-- elements were at most taken: the slice is as it was
+pub record OnlyTaken {T : Type 0} (q q' : Queue T) : Type 0 where
+  pub slots : q'.slots.now ≡ q.slots.now
+  pub lender : q'.slots.ghost_name ≡ q.slots.ghost_name
+
+-- an element was at most put: no place of the slice was written but perhaps the one behind the newest element
+pub record OnlyPut {T : Type 0} (q q' : Queue T) : Type 0 where
+  pub slots : FreeWritten q q'
+  pub room : room q' ≡ room q
+  pub lender : q'.slots.ghost_name ≡ q.slots.ghost_name

@@ -1,6 +1,6 @@
 ghost use Rattle.std.specs.Prelude.{◌≡◌, ◌+◌, ◌<◌, ◌≤◌, [], ◌∷◌, ◌++◌, length, drop, slice_set};
 ghost use Rattle.values.specs.Refusals.{outcome};
-ghost use Rattle.queues.specs.Fifo.{held, room, put_outcome, put_after, take_outcome, take_after, oldest_of, UnchangedIfRefused, place_of, free_place, slots_after};
+ghost use Rattle.queues.specs.Fifo.{held, room, put_outcome, put_after, take_outcome, take_after, oldest_of, UnchangedIfRefused, place_of, free_place, slots_after, OnlyTaken, OnlyPut};
 
 use values::refusal::Refusal;
 
@@ -36,8 +36,7 @@ impl<'a, T: Copy> Queue<'a, T> {
         ensures after { held self.new ≡ put_after (room self.old) (held self.old) x }
         ensures slots { self.new.slots.now ≡ slots_after self.old x }
         ensures refused { UnchangedIfRefused result self.old self.new }
-        ensures room { room self.new ≡ room self.old }
-        ensures lender { self.new.slots.ghost_name ≡ self.old.slots.ghost_name }
+        ensures only_put { OnlyPut self.old self.new }
     {
         if self.len() >= self.capacity() {
             return Err(Refusal::QueueFull);
@@ -51,13 +50,9 @@ impl<'a, T: Copy> Queue<'a, T> {
         ensures outcome { outcome (λ x. x) result ≡ take_outcome (held self.old) }
         ensures after { held self.new ≡ take_after (held self.old) }
         ensures refused { UnchangedIfRefused result self.old self.new }
-        ensures same { self.new.slots.now ≡ self.old.slots.now }
-        ensures lender { self.new.slots.ghost_name ≡ self.old.slots.ghost_name }
+        ensures only_taken { OnlyTaken self.old self.new }
     {
-        if self.len() == 0 {
-            return Err(Refusal::NoAnswer);
-        }
-        let x = self.at(0);
+        let x = self.oldest().ok_or(Refusal::NoAnswer)?;
         self.remove();
         Ok(x)
     }
@@ -116,8 +111,7 @@ impl<'a, T: Copy> Queue<'a, T> {
         requires { length (held self.old) < room self.old }
         ensures after { held self.new ≡ held self.old ++ x ∷ [] }
         ensures slots { self.new.slots.now ≡ slice_set self.old.slots.now (free_place self.old) x }
-        ensures room { room self.new ≡ room self.old }
-        ensures lender { self.new.slots.ghost_name ≡ self.old.slots.ghost_name }
+        ensures only_put { OnlyPut self.old self.new }
     {
         let len = self.len();
         let at = self.place(len);
@@ -129,8 +123,7 @@ impl<'a, T: Copy> Queue<'a, T> {
     fn remove(&mut self)
         requires { 0 < length (held self.old) }
         ensures after { held self.new ≡ drop 1 (held self.old) }
-        ensures same { self.new.slots.now ≡ self.old.slots.now }
-        ensures lender { self.new.slots.ghost_name ≡ self.old.slots.ghost_name }
+        ensures only_taken { OnlyTaken self.old self.new }
     {
         self.len = self.len() - 1;
         self.head = self.place(1);

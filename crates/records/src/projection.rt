@@ -41,6 +41,7 @@ impl<'a> Projection<'a> {
     }
 }
 
+// Each edit is the record's own call, lent as long as the projection lasts; which of them a value names is asked in `Record::edit` alone.
 impl Projection<'_> {
     pub fn project(&mut self, address: u32, io: u32, id: u32, parameter: u32) -> Result<(), Refusal>
         ensures { EditedThrough (projecting address io id parameter) self.old result self.new }

@@ -80,7 +80,7 @@ impl Rows {
         ensures { rows self.new ≡ slice_set (rows self.old) address.value (activated_with entry (row_at address.value (rows self.old))) }
     {
         self.lists.activate(address);
-        self.entries[usize::from(address.get())] = entry;
+        self.entries[usize::from(Address::from(address))] = entry;
     }
 
     /// Takes an address out of LDS and LAS, with this entry.

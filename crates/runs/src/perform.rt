@@ -1,4 +1,4 @@
-ghost use Rattle.orders.specs.Queues.{OnlyPut};
+ghost use Rattle.queues.specs.Fifo.{OnlyPut};
 ghost use Rattle.lines.specs.Lines.{meaning};
 ghost use Rattle.master.specs.Cycles.{card_of};
 ghost use Rattle.runs.specs.Runs.{came, Performed};

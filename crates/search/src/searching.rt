@@ -12,6 +12,7 @@ ghost use Rattle.search.specs.Searches.{seek_visit, naming_visit, deciding, Sear
 use super::step::{Step, pick};
 use lines::line::Line;
 use phases::activation::{enter_admissible, is_admissible};
+use phases::detection::detect_at;
 use records::entry::{Codes, Entry};
 use records::record::Mode;
 use records::rows::Rows;
@@ -49,11 +50,7 @@ fn name_at<L: Line>(target: &mut Rows, line: &mut L, address: Address, io: Nibbl
 {
     let reply = line.carry(Request::ReadId(address));
     match reply {
-        Reply::Answer(id) => {
-            let entry = target.entry(address);
-            let cdi = Codes { io, id };
-            target.detect(address, Entry { cdi, ..entry });
-        }
+        Reply::Answer(id) => detect_at(target, address, Codes { io, id }),
         Reply::Silence | Reply::Disturbed => lose(target, address),
     }
     reply

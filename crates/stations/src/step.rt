@@ -54,9 +54,9 @@ impl Station {
         let Some(module) = &mut self.module else {
             return Reply::Silence;
         };
-        match module.disturbance.get().checked_sub(1) {
+        match u32::from(module.disturbance).checked_sub(1) {
             Some(left) => {
-                module.disturbance = Disturbance::low(u32::from(left));
+                module.disturbance = Disturbance::low(left);
                 Reply::Disturbed
             }
             None => module.obey(request),

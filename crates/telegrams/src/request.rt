@@ -18,7 +18,7 @@ pub enum Request {
 }
 
 /// What a master hears: a nibble, nothing, or something that is no telegram.
-// No `Result`: the rules of a line know three ends of a request, none of which is a call's failure.
+// No `Result`: the rules go on after each of the three, and never hand one on as `?` would; a match names each as the standard does.
 #[derive(Clone, Copy, PartialEq, Eq)]
 pub enum Reply {
     Answer(Nibble),

@@ -7,6 +7,5 @@ returns g c =
     let q = c.args.self.now in
     record {
       after = held_rest q c.len.result c.place-self.result (omega arith) c.len.ensures.is c.place-self.ensures.is;
-      same = refl {a = q.slots.now};
-      lender = refl {a = q.slots.ghost_name};
+      only_taken = record { slots = refl {a = q.slots.now}; lender = refl {a = q.slots.ghost_name} };
     }

@@ -13,8 +13,8 @@ returns c =
     let sized : length es ≡ 32 = search rules in
     let lds : c.activate.new.self.lds ≡ joined r.lists.lds a = c.activate.ensures.lds in
     let las : c.activate.new.self.las ≡ joined r.lists.las a = c.activate.ensures.las in
-    relisted r.lists.lds r.lists.las r.lps c.activate.new.self.lds c.activate.new.self.las es c.from.result a c.args.entry true true
-    (c.from.ensures ∙ c.get.ensures) (omega arith) sized
+    relisted r.lists.lds r.lists.las r.lps c.activate.new.self.lds c.activate.new.self.las es c.from-2.result a c.args.entry true true
+    (c.from-2.ensures ∙ c.from.ensures) (omega arith) sized
     (ap (λ (w : ℕ). has w a) lds ∙ has_joined_same r.lists.lds a)
     (ap (λ (w : ℕ). has w a) las ∙ has_joined_same r.lists.las a)
     (λ k h ne. ap (λ (w : ℕ). has w k) lds ∙ has_joined_other r.lists.lds a k ne)

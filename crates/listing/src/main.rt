@@ -1,30 +1,28 @@
-//! Reads an image from standard input and lists the modules that answer on it: address, I/O code, ID code.
+//! Reads an image from standard input and lists the first four cycles of a new master on it: cycle, first letter of its phase, LDS and LAS
+//! after it, requests.
 #![tactic(auto)]
 
-use lines::line::Line;
-use racks::image_rack::ImageRack;
-use stations::bytes::{IMAGE_BYTES, image_from_bytes};
+use first_cycles::first_cycles::{CALLS, on_image};
+use runs::call::{Given, Outcome};
+use stations::bytes::IMAGE_BYTES;
 use std::io;
 use std::io::Read;
-use telegrams::request::{Reply, Request};
-use values::address::Address;
 
-/// The I/O code and the ID code of the module at an address, where one answers.
-fn codes(line: &mut impl Line, address: Address) -> Option<(u8, u8)> {
-    let Reply::Answer(io_code) = line.carry(Request::ReadIo(address)) else {
-        return None;
+/// Prints one cycle, from its report and from the reading of the lists after it.
+fn print_cycle(rt: &impl Print, number: usize, pair: &[Outcome]) -> io::Result<()> {
+    let [Ok(Given::Ran(report)), Ok(Given::Lists(lists))] = pair else {
+        return Ok(());
     };
-    let Reply::Answer(id_code) = line.carry(Request::ReadId(address)) else {
-        return None;
-    };
-    Some((io_code.get(), id_code.get()))
+    let letter = report.phase.letter();
+    let requests = report.requests;
+    let lds = lists.lds;
+    let las = lists.las;
+    println!(rt; "{number} {letter} {lds:08X} {las:08X} {requests}")
 }
 
-fn list(rt: &impl Print, line: &mut impl Line) -> io::Result<()> {
-    for a in 0..32u32 {
-        if let Some((io_code, id_code)) = codes(line, Address::low(a)) {
-            println!(rt; "{a} {io_code} {id_code}")?;
-        }
+fn list(rt: &impl Print, log: [Outcome; CALLS]) -> io::Result<()> {
+    for (number, pair) in (1..).zip(log.chunks(2)) {
+        print_cycle(rt, number, pair)?;
     }
     Ok(())
 }
@@ -35,12 +33,8 @@ fn main(rt: HostRuntime) -> io::Result<()> {
     rt.stdin()
         .take(IMAGE_BYTES as u64 + 1)
         .read_to_end(&mut bytes)?;
-    let mut words = match image_from_bytes(&bytes) {
-        Ok(words) => words,
-        Err(refusal) => return println!(rt; "{refusal}"),
-    };
-    match ImageRack::open(&mut words) {
-        Ok(mut rack) => list(&rt, &mut rack),
+    match on_image(&bytes) {
+        Ok(log) => list(&rt, log),
         Err(refusal) => println!(rt; "{refusal}"),
     }
 }

@@ -3,8 +3,8 @@ use Rattle.std.proofs.Common.{◌≡◌, ℕ, zero, suc, ◌<◌, ◌≤◌, Boo
 use Rattle.std.specs.List.{AllByRecursion}
 use Rattle.std.proofs.ByRecursion.{All-drop}
 use Rattle.std.proofs.lemmas.Bool.{and_from, false≢true}
-use Rattle.telegrams.specs.Requests.{read_io, read_id, write_parameter}
-use Rattle.stations.specs.Stations.{State, Place, occupied, with_parameter}
+use Rattle.telegrams.specs.Requests.{nibble, data_exchange, read_io, read_id, write_parameter}
+use Rattle.stations.specs.Stations.{State, Place, occupied, reply, with_parameter}
 use Rattle.lines.specs.Lines.{Meaning, at}
 use Rattle.records.specs.Rows.{Pair, Row, row_at}
 use Rattle.phases.specs.Visits.{Visit, left_alone}
@@ -192,7 +192,10 @@ module _
         was = adm.there;
         is = ap (λ (s : Scene). at s.line.places b) is_run ∙ z.see.place_is;
         took = z.took;
-        reply = ap (λ (s : Scene). (row_at b s.card.control.rows).idi) is_run ∙ ap (λ (t : Row). t.idi) z.see.row_is ∙ z.idi_is;
+        replied =
+            ap₂ (λ (p : Bool) (q : Place). reply p q (data_exchange r.odi)) adm.powered adm.there
+            ∙ z.heard
+            ∙ ap (λ (t : Row). nibble t.idi) (sym (ap (λ (s : Scene). row_at b s.card.control.rows) is_run ∙ z.see.row_is));
       },
       subst (Left b 0) (sym is_run) (left_seen b 0 (run Normal start) _ z.state z.see refl (serving z.active z.enabled)),
     )

@@ -1,9 +1,9 @@
 -- A normal cycle at an address with an admitted module: a served module is exchanged and stays served, and of one that waits one cycle
 -- less is left.
-use Rattle.std.proofs.Common.{◌≡◌, ℕ, suc, ◌+◌, ◌<◌, ◌≤◌, Bool, true, false, List, [], ◌∷◌, sym, refl, ◌∙◌, subst, subst₂, ⊎_elim, arith}
+use Rattle.std.proofs.Common.{◌≡◌, ℕ, suc, ◌+◌, ◌<◌, ◌≤◌, Bool, true, false, List, [], ◌∷◌, sym, refl, ap, ◌∙◌, subst, subst₂, ⊎_elim, arith}
 use Rattle.std.proofs.lemmas.Bool.{cases_Bool}
-use Rattle.telegrams.specs.Requests.{Asking, data_exchange}
-use Rattle.stations.specs.Stations.{State, occupied, port_bits, with_outputs}
+use Rattle.telegrams.specs.Requests.{Asking, nibble, data_exchange}
+use Rattle.stations.specs.Stations.{State, occupied, port_bits, with_outputs, reply}
 use Rattle.records.specs.Rows.{Pair, Row, row_at}
 use Rattle.records.specs.declared.record.Mode.{Mode}
 use Rattle.phases.specs.Visits.{left_alone}
@@ -13,7 +13,7 @@ use Rattle.master.specs.declared.master.Phase.TheVariants.{Normal}
 use Rattle.master.specs.Cycles.{Scene, exchange, manage, search_on}
 use Rattle.promise.specs.Waiting.{exchanges, codes_of, ProjectedSo}
 use Rattle.promise.proofs.Sees.{Sees, stepped}
-use Rattle.promise.proofs.Visits.{exchange_served, exchange_missed, exchange_off, by_misses, so_like}
+use Rattle.promise.proofs.Visits.{exchange_served, exchange_heard, exchange_missed, exchange_off, by_misses, so_like}
 use Rattle.promise.proofs.Moments.{Orderly, sees_exchange, next_after}
 use Rattle.promise.proofs.Far.{round}
 use Rattle.promise.proofs.Within.{view_of, limit, Fine, Ahead, Waits, serving, missing, seeking, ahead_fresh}
@@ -45,7 +45,7 @@ pub record Served (b : ℕ) (s : Scene) (mode : Mode) (r : Row) (x : State) : Ty
   pub active : row.active ≡ true
   pub enabled : state.enabled ≡ true
   pub took : state.outputs ≡ r.odi
-  pub idi_is : row.idi ≡ port_bits r.odi x
+  pub heard : reply true (occupied x) (data_exchange r.odi) ≡ nibble row.idi
   pub once : exchanges sent ≡ r.odi ∷ []
 
 module _ (b : ℕ) (one : 1 ≤ b) (hb : b < 32) (s : Scene) (mode : Mode) (step : Stage) (r : Row) (x : State) (met : Meeting b s mode step r x) where
@@ -96,7 +96,7 @@ module _ (b : ℕ) (one : 1 ≤ b) (hb : b < 32) (s : Scene) (mode : Mode) (step
             active = m.tended.active_is ∙ active;
             enabled = m.tended.still_enabled enabled;
             took = m.tended.outputs_are;
-            idi_is = m.tended.idi_is;
+            heard = exchange_heard x met.calm r.odi enabled met.small ∙ ap nibble (sym m.tended.idi_is);
             once = m.no_more;
           }
 

@@ -27,7 +27,7 @@ use Rattle.promise.specs.Successions.{Turn, cycling, calling, setting_mode, edit
 use Rattle.promise.specs.Waiting.{sent_to, exchanges, resets, codes_of, ProjectedSo, Stays, StaysPlugged, Unaltered, LeftInPlace, row_met, done}
 use Rattle.promise.proofs.Bound.{waiting_bound}
 use Rattle.promise.proofs.Sending.{sent-to-append, sent_to_below}
-use Rattle.promise.specs.Sharp.{PassesBy, WaitsLongest, LeastBound}
+use Rattle.promise.specs.Sharp.{lawful, lines_met, MeetsAsLeft, Untouched, PassesBy, WaitsLongest, LeastBound}
 
 -- A line that is left as it is: each cycle meets what the one before it left
 
@@ -52,6 +52,16 @@ left_staying : (b n : ℕ) (c : Card) (line : Meaning) → LeftInPlace b (cycles
 unfolding staying
 left_staying b zero c line = tt
 left_staying b (suc n) c line = (unaltered_staying b n (met c line) (cycle c line).card, left_staying b n (cycle c line).card (cycle c line).line)
+
+untouched_first : (n : ℕ) (d : Met) (c : Card) → MeetsAsLeft d (cycles c (staying n c (done d).line))
+unfolding staying
+untouched_first zero d c = tt
+untouched_first (suc n) d c = refl
+
+untouched_staying : (n : ℕ) (c : Card) (line : Meaning) → Untouched (cycles c (staying n c line))
+unfolding staying
+untouched_staying zero c line = tt
+untouched_staying (suc n) c line = (untouched_first n (met c line) (cycle c line).card, untouched_staying n (cycle c line).card (cycle c line).line)
 
 -- What a normal cycle sends to b where no order waits
 
@@ -276,9 +286,12 @@ module _ (b : ℕ) where
   abbrev all_wait : Bool
   all_wait = first_waits && (second_waits && others_wait)
 
-  waits_longest : 1 ≤ b → b < 32 → all_wait ≡ true → WaitsLongest 97 b before following
+  abbrev all_lawful : Bool
+  all_lawful = list_all lawful (lines_met before)
+
+  waits_longest : 1 ≤ b → b < 32 → all_lawful ≡ true → all_wait ≡ true → WaitsLongest 97 b before following
   unfolding staying
-  waits_longest low h e =
+  waits_longest low h lines e =
       let one = and_parts first_waits (second_waits && others_wait) e in
       let two = and_parts second_waits others_wait one.1 in
       let d₁ = met first full in
@@ -289,6 +302,9 @@ module _ (b : ℕ) where
         left = ((λ x there. (x.inputs, there)), (unaltered_staying b 96 d₂ third, left_staying b 96 third second_done.line));
       } in
       record {
+        lawful_before = lines;
+        lawful_plugged = refl;
+        untouched = (refl, (untouched_first 96 d₂ third, untouched_staying 96 third second_done.line));
         plugged = plugged;
         long = ap (λ n. suc (suc n)) (length-staying 96 third second_done.line);
         not_yet = (passes b h 96 d₁ one.0, (passes b h 95 d₂ two.0, pass_all b h 95 third second_done.line two.1));
@@ -301,14 +317,21 @@ waits_everywhere : list_all all_wait (range_with_len 1 31) ≡ true
 unfolding waits table sent_below pick_within new_control everywhere manage search_on stay_offline cycle sent_to
 waits_everywhere = refl
 
-waits_at : (b : ℕ) → 1 ≤ b → b < 32 → all_wait b ≡ true
-waits_at b low high =
+lawful_everywhere : list_all all_lawful (range_with_len 1 31) ≡ true
+lawful_everywhere = refl
+
+everywhere_at : (test : ℕ → Bool) → list_all test (range_with_len 1 31) ≡ true → (b : ℕ) → 1 ≤ b → b < 32 → test b ≡ true
+everywhere_at test all b low high =
     let one : 1 + (b - 1) ≡ b = omega arith in
-    subst (λ (k : ℕ). all_wait k ≡ true) (get_or-range_with_len 1 31 (b - 1) 0 (omega arith) ∙ one) (list_all-at_place all_wait 0 (range_with_len 1 31) waits_everywhere (b - 1) (omega arith))
+    subst (λ (k : ℕ). test k ≡ true) (get_or-range_with_len 1 31 (b - 1) 0 (omega arith) ∙ one) (list_all-at_place test 0 (range_with_len 1 31) all (b - 1) (omega arith))
 
 pub least_bound : LeastBound 97
 least_bound =
     record {
       enough = waiting_bound;
-      sharp = λ b low high. (before b, following b, waits_longest b low high (waits_at b low high));
+      sharp = λ b low high. (
+        before b,
+        following b,
+        waits_longest b low high (everywhere_at all_lawful lawful_everywhere b low high) (everywhere_at all_wait waits_everywhere b low high),
+      );
     }

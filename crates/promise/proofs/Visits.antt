@@ -48,6 +48,9 @@ module _ (x : State) (calm : x.disturbance ≡ 0) where
       ≡ record { row = with_data (port_bits r.odi x) 0 r; place = occupied (with_outputs r.odi x); sent = data_exchange r.odi ∷ [] }
   exchange_served r on enabled small = rw (on, calm, enabled, ne_eqb x.io 15 (omega arith))
 
+  pub exchange_heard : (n : ℕ) → x.enabled ≡ true → x.io < 15 → reply true (occupied x) (data_exchange n) ≡ nibble (port_bits n x)
+  exchange_heard n enabled small = rw (calm, enabled, ne_eqb x.io 15 (omega arith)) refl
+
   pub exchange_missed : (r : Row) → r.active ≡ true → x.enabled ≡ false →
       exchange_visit true r (occupied x) ≡ record { row = missed r; place = occupied x; sent = data_exchange r.odi ∷ [] }
   exchange_missed r on disabled = rw (on, calm, disabled)

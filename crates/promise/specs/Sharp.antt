@@ -1,11 +1,41 @@
 -- The waiting bound is sharp: at every address a module can be plugged in so that it meets all that the bound asks, and yet no cycle up to 97
 -- exchanges with it. So no smaller number would do. The successions are closed and the checker computes them, so they also show that the
 -- hypotheses of the bound can be met.
-use Rattle.std.specs.Prelude.{◌≡◌, ℕ, ◌+◌, ◌<◌, ◌≤◌, List, [], length, take, drop}
-use Rattle.std.specs.List.{AllByRecursion}
+use Rattle.std.specs.Prelude.{◌≡◌, ℕ, ◌+◌, ◌<◌, ◌≤◌, Bool, true, ◌&&◌, nat_lt, ◌==◌, List, [], ◌∷◌, length, take, drop}
+use Rattle.std.specs.List.{AllByRecursion, list_all}
+use Rattle.stations.specs.Stations.{State, Place, vacant, occupied}
+use Rattle.lines.specs.Lines.{Meaning}
 use Rattle.master.specs.Cycles.{new_card}
-use Rattle.promise.specs.Successions.{Turn, after, Met, cycles}
+use Rattle.promise.specs.Successions.{Turn, cycling, calling, after, Met, cycles}
 use Rattle.promise.specs.Waiting.{done, sent_to, exchanges, StaysPlugged, Exchanged, WaitsAtMost}
+
+-- A line that there can be: it has 32 places, a module's values are nibbles, and its disturbance count is below 8
+
+abbrev nibbles : State → List ℕ
+nibbles x = x.io ∷ x.id ∷ x.inputs ∷ x.outputs ∷ x.parameter ∷ x.direction ∷ []
+
+abbrev fitting : Place → Bool
+fitting vacant = true
+fitting (occupied x) = list_all (λ n. nat_lt n 16) (nibbles x) && nat_lt x.disturbance 8
+
+abbrev pub lawful : Meaning → Bool
+lawful l = length l.places == 32 && list_all fitting l.places
+
+-- the lines that the cycles of a succession met
+abbrev pub lines_met : List Turn → List Meaning
+lines_met [] = []
+lines_met (cycling l ∷ ts) = l ∷ lines_met ts
+lines_met (calling x ∷ ts) = lines_met ts
+
+-- each cycle met the line as the one before left it
+
+abbrev pub MeetsAsLeft : Met → List Met → Type 0
+MeetsAsLeft d [] = Unit {0}
+MeetsAsLeft d (e ∷ es) = e.line ≡ (done d).line
+
+abbrev pub Untouched : List Met → Type 0
+Untouched [] = Unit {0}
+Untouched (d ∷ ds) = MeetsAsLeft d ds × Untouched ds
 
 -- the cycle does not exchange with b
 abbrev pub PassesBy : ℕ → Met → Type 0
@@ -13,6 +43,9 @@ PassesBy b d = exchanges (sent_to b (done d).sent) ≡ []
 
 -- p came before plugging at b, and n + 1 cycles came after it: the module is exchanged in the last of them, and in none before
 pub record WaitsLongest (n b : ℕ) (p q : List Turn) : Type 0 where
+  pub lawful_before : list_all lawful (lines_met p) ≡ true
+  pub lawful_plugged : list_all lawful (take 1 (lines_met q)) ≡ true
+  pub untouched : Untouched (cycles (after p (new_card 1 1)) q)
   pub plugged : StaysPlugged b (cycles (after p (new_card 1 1)) q)
   pub long : length (cycles (after p (new_card 1 1)) q) ≡ n + 1
   pub not_yet : AllByRecursion (PassesBy b) (take n (cycles (after p (new_card 1 1)) q))

@@ -3,8 +3,8 @@
 -- hypothesis speaks of the cycles of q alone, each as it began.
 use Rattle.std.specs.Prelude.{◌≡◌, ℕ, ◌+◌, ◌<◌, ◌≤◌, true, false, cond, List, [], ◌∷◌, drop, ◌==◌}
 use Rattle.std.specs.List.{AllByRecursion}
-use Rattle.telegrams.specs.Requests.{Asking, Sent, data_exchange, write_parameter, read_io, read_id, resetting}
-use Rattle.stations.specs.Stations.{State, occupied, port_bits}
+use Rattle.telegrams.specs.Requests.{Asking, Sent, nibble, data_exchange, write_parameter, read_io, read_id, resetting}
+use Rattle.stations.specs.Stations.{State, occupied, reply}
 use Rattle.lines.specs.Lines.{at}
 use Rattle.records.specs.Rows.{Pair, Row, row_at}
 use Rattle.records.specs.declared.record.Mode.{Mode}
@@ -78,7 +78,8 @@ abbrev pub LeftInPlace : ℕ → List Met → Type 0
 LeftInPlace b [] = Unit {0}
 LeftInPlace b (d ∷ ds) = Unaltered b d ds × LeftInPlace b ds
 
--- the cycle ran in the normal phase and sent the module one Data_Exchange, with its ODI; the module took it, and its reply stands in IDI
+-- the cycle ran in the normal phase and sent the module one Data_Exchange, with its ODI; the module took it, and the nibble that it replied
+-- stands in IDI
 pub record Exchanged (b : ℕ) (d : Met) : Type 0 where
   pub normal : running d.card.control d.line ≡ Normal
   pub once : exchanges (sent_to b (done d).sent) ≡ (row_met b d).odi ∷ []
@@ -87,7 +88,7 @@ pub record Exchanged (b : ℕ) (d : Met) : Type 0 where
   pub was : at d.line.places b ≡ occupied before
   pub is : at (done d).line.places b ≡ occupied afterwards
   pub took : afterwards.outputs ≡ (row_met b d).odi
-  pub reply : (row_at b (done d).card.control.rows).idi ≡ port_bits (row_met b d).odi before
+  pub replied : reply d.line.power (at d.line.places b) (data_exchange (row_met b d).odi) ≡ nibble (row_at b (done d).card.control.rows).idi
 
 -- what is asked of the cycles after plugging
 pub record StaysPlugged (b : ℕ) (ds : List Met) : Type 0 where

@@ -1,4 +1,4 @@
-ghost use Rattle.queues.specs.Fifo.{OnlyPut};
+ghost use Rattle.queues.specs.Fifo.{UnchangedIfRefused, OnlyPut};
 ghost use Rattle.lines.specs.Lines.{meaning};
 ghost use Rattle.master.specs.Cycles.{card_of};
 ghost use Rattle.runs.specs.Runs.{came, Performed};
@@ -17,6 +17,7 @@ pub fn perform<L: Line>(
     queues: &mut Queues,
 ) -> Outcome
     ensures performed { Performed call.entry (meaning (L.power line.old) (L.stations line.old)) (card_of master.old queues.old) (came result) (meaning (L.power line.new) (L.stations line.new)) (card_of master.new queues.new) }
+    ensures refused { UnchangedIfRefused result queues.old queues.new }
     ensures orders { OnlyPut queues.old.orders queues.new.orders }
     ensures answers { OnlyPut queues.old.answers queues.new.answers }
 {

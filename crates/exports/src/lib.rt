@@ -1,0 +1,8 @@
+//! What the comparison with an independent implementation links: the library's calls by functions on numbers and slices.
+#![tactic(auto)]
+
+pub mod cycles;
+pub mod logged;
+pub mod replay;
+pub mod script;
+pub mod telegrams;

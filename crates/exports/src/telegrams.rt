@@ -1,0 +1,66 @@
+use telegrams::request::Request;
+use telegrams::word::{decode_reply, decode_request, encode_reply, encode_request};
+use values::address::Address;
+use values::nibble::Nibble;
+use values::refusal::{Cause, Refusal};
+
+fn request(kind: u32, address: u32, value: u32) -> Result<Request, Refusal> {
+    match kind {
+        0 => Request::data_exchange(address, value),
+        1 => Request::write_parameter(address, value),
+        2 => Request::read_io(address),
+        3 => Request::read_id(address),
+        _ => Request::reset(address),
+    }
+}
+
+fn packed(kind: u32, address: Address, value: u32) -> u32 {
+    kind << 16 | u32::from(address) << 8 | value
+}
+
+/// A refused word: the number of the refusal and its cause.
+fn refused(refusal: Refusal) -> u32 {
+    let cause = refusal.cause().map_or(0, Cause::number);
+    u32::from(refusal.number()) << 16 | u32::from(cause)
+}
+
+#[unsafe(no_mangle)]
+pub extern "C" fn asi_encode_request(kind: u32, address: u32, value: u32) -> u32 {
+    match request(kind, address, value) {
+        Ok(request) => encode_request(request),
+        Err(refusal) => u32::from(refusal.number()),
+    }
+}
+
+#[unsafe(no_mangle)]
+pub extern "C" fn asi_decode_request(word: u32) -> u32 {
+    match decode_request(word) {
+        Ok(request) => {
+            let (kind, value) = match request {
+                Request::DataExchange(_, nibble) => (0, u32::from(nibble)),
+                Request::WriteParameter(_, nibble) => (1, u32::from(nibble)),
+                Request::ReadIo(_) => (2, 0),
+                Request::ReadId(_) => (3, 0),
+                Request::Reset(_) => (4, 0),
+            };
+            packed(kind, request.address(), value)
+        }
+        Err(refusal) => refused(refusal),
+    }
+}
+
+#[unsafe(no_mangle)]
+pub extern "C" fn asi_encode_reply(value: u32) -> u32 {
+    match Nibble::try_from(value) {
+        Ok(nibble) => encode_reply(nibble),
+        Err(refusal) => u32::from(refusal.number()),
+    }
+}
+
+#[unsafe(no_mangle)]
+pub extern "C" fn asi_decode_reply(word: u32) -> u32 {
+    match decode_reply(word) {
+        Ok(nibble) => u32::from(nibble),
+        Err(refusal) => refused(refusal),
+    }
+}

@@ -14,6 +14,8 @@ mod queue;
 #[cfg(test)]
 mod refusals;
 #[cfg(test)]
+mod requests;
+#[cfg(test)]
 mod script;
 #[cfg(test)]
 mod words;

@@ -1,0 +1,118 @@
+//! The requests that a line is really given: contracts say what these do to it, and how many the rules send.
+use crate::script::*;
+use lines::line::Line;
+use master::master::{Master, Phase};
+use orders::order::{Answer, Order, Unanswered};
+use orders::pair::Queues;
+use racks::bench::BenchRack;
+use stations::image::{IMAGE_WORDS, POWER_UP};
+use std::process::Abort;
+use std::test::*;
+use telegrams::request::{Reply, Request};
+use telegrams::word::encode_request;
+use values::address::Address;
+use values::module_address::ModuleAddress;
+
+/// A cycle sends at most 64 requests, in detection.
+const KEPT: usize = 64;
+
+/// A line that keeps the words of the requests that it carries.
+#[derive(Drop)]
+struct Recorder<L> {
+    below: L,
+    words: [u32; KEPT],
+    count: usize,
+}
+
+impl<L: Line> Line for Recorder<L> {
+    ghost power = { λ r. L.Line.power r.below };
+
+    ghost stations = { λ r. L.Line.stations r.below };
+
+    fn is_powered(&self) -> bool {
+        self.below.is_powered()
+    }
+
+    fn carry(&mut self, request: Request) -> Reply {
+        if let Some(word) = self.words.get_mut(self.count) {
+            *word = encode_request(request);
+        }
+        self.count = self.count.saturating_add(1);
+        self.below.carry(request)
+    }
+}
+
+/// The words of the Data_Exchanges that are due, lowest address first; how many they are.
+fn due(master: &Master, words: &mut [u32; KEPT]) -> usize {
+    let mut count = 0;
+    for a in 0..31u32 {
+        let to = ModuleAddress::nth(a);
+        let at = Address::from(to);
+        if master.table.rows.is_active(at) {
+            let odi = master.table.rows.entry(at).odi;
+            if let Some(word) = words.get_mut(count) {
+                *word = encode_request(Request::DataExchange(to, odi));
+            }
+            count = (count + 1).min(KEPT);
+        }
+    }
+    count
+}
+
+/// Runs one cycle: the line is given as many requests as the cycle reports, and in a normal one first the exchanges that are due, in order.
+fn check_cycle<L: Line>(
+    rt: &impl Abort,
+    master: &mut Master,
+    line: &mut Recorder<L>,
+    queues: &mut Queues,
+) -> Phase {
+    let mut expected = [0; KEPT];
+    let exchanges = due(master, &mut expected);
+    line.count = 0;
+    let report = master.cycle(line, queues);
+    assert_eq!(rt; line.count, report.requests as usize);
+    if report.phase == Phase::Normal {
+        assert!(rt; line.count >= exchanges && line.count <= exchanges + 2);
+        assert_eq!(rt; line.words[..exchanges], expected[..exchanges]);
+    }
+    report.phase
+}
+
+#[test]
+fn requests_sent(rt: HostRuntime) -> Result<(), Fail> {
+    // Modules at 1 to 31 but 20: one is disturbed twice, one never exchanges.
+    let mut words = [MODULE; IMAGE_WORDS];
+    words[0] = 0;
+    words[7] = MODULE | 0x20;
+    words[9] = 0x4F09_FF00;
+    words[20] = 0;
+    words[32] = POWER_UP;
+    let Ok(below) = BenchRack::open(&words) else {
+        return Err(Fail::new("good image refused"));
+    };
+    let mut line = Recorder {
+        below,
+        words: [0; KEPT],
+        count: 0,
+    };
+    let order = Order::Reset(ModuleAddress::nth(0));
+    let answer = Answer {
+        order,
+        result: Err(Unanswered::NotActive),
+    };
+    let mut orders = [order; 2];
+    let mut answers = [answer; 2];
+    let mut queues = Queues::over(&mut orders, &mut answers);
+    let mut master = Master::new();
+    let mut normal = 0u32;
+    for k in 0..200u32 {
+        let _ = master.place_reset(&mut queues, k % 31 + 1);
+        let _ = master.table.write_outputs(k % 31 + 1, k % 16);
+        if check_cycle(&rt, &mut master, &mut line, &mut queues) == Phase::Normal {
+            normal += 1;
+        }
+        let _ = queues.collect();
+    }
+    assert_eq!(rt; normal, 197);
+    Ok(())
+}

@@ -28,8 +28,7 @@ pub const UNTOUCHED: u32 = 0xDEAD_BEEF;
 
 const RANDOM_WORDS: u32 = 20_000;
 
-/// Compares the four telegram functions; gives how many calls of each kind
-/// of function were compared.
+/// Compares the four telegram functions; gives how many calls were compared.
 pub fn telegrams(seed: u64) -> Result<u64, Difference> {
     Ok(decoders(seed)? + encoders()?)
 }

@@ -1,7 +1,6 @@
 //! The rules of the master a second time, read from docs/ alone.
 //!
-//! Nothing here is shared with the proved crates. Where the documentation
-//! leaves a choice, the comment begins with "Reading:".
+//! Nothing here is shared with the proved crates.
 
 pub mod image;
 pub mod line;

@@ -55,12 +55,12 @@ impl Script<'_> {
             script.block();
         }
         script.words.truncate(calls as usize * ENTRY_WORDS);
-        script.cut_part();
+        script.append_partial_entry();
         script.words
     }
 
     /// A part of an entry at the end, which nobody looks at.
-    fn cut_part(&mut self) {
+    fn append_partial_entry(&mut self) {
         if self.random.percent(20) {
             let part = self.random.below(ENTRY_WORDS as u32);
             for _ in 0..part {

@@ -103,9 +103,8 @@ impl<L: Line> Line for Repeater<L> {
         }
     }
 
-    /// Reading: the words between two calls are those of the rack at the
-    /// bottom, with its own disturbance counts and not the halved ones. Else
-    /// every call, even one that never touches the line, would halve them.
+    /// The words between two calls are those of the rack at the bottom, with
+    /// its own disturbance counts and not the halved ones.
     fn image(&self) -> Image {
         self.below.image()
     }

@@ -1,5 +1,5 @@
-//! The phases but for management and search: data exchange, detection and
-//! activation (CYCLE.md). Each gives how many requests it sent.
+//! Data exchange, detection and activation (CYCLE.md). Each gives how many
+//! requests it sent.
 
 use super::line::Line;
 use super::numbers::{Address, Nibble};

@@ -46,8 +46,7 @@ fn run<L: Line>(mut master: Master, words: &mut [u32], script: &[u32], log: &mut
     let mut image = *image;
     let mut entries = Entries::of(script);
     let mut calls = 0;
-    // Reading: where the log has no place, the alteration before the call is
-    // not made either.
+    // Where the log has no place, the line is not altered either.
     for place in log.chunks_exact_mut(CALL_WORDS) {
         let Some(entry) = entries.next() else { break };
         alter(&mut image, entry);

@@ -58,8 +58,7 @@ impl Request {
         })
     }
 
-    /// Reading: COMPARE.md numbers Reset "any other"; a decoded Reset has
-    /// the next free number, 4.
+    /// The number of a request's kind (COMPARE.md).
     pub fn kind(self) -> u32 {
         match self {
             Request::DataExchange(..) => 0,

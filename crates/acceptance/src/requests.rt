@@ -2,7 +2,6 @@
 use crate::script::*;
 use lines::line::Line;
 use master::master::{Master, Phase};
-use orders::order::{Answer, Order, Unanswered};
 use orders::pair::Queues;
 use racks::bench::BenchRack;
 use stations::image::{IMAGE_WORDS, POWER_UP};
@@ -95,13 +94,8 @@ fn requests_sent(rt: HostRuntime) -> Result<(), Fail> {
         words: [0; KEPT],
         count: 0,
     };
-    let order = Order::Reset(ModuleAddress::nth(0));
-    let answer = Answer {
-        order,
-        result: Err(Unanswered::NotActive),
-    };
-    let mut orders = [order; 2];
-    let mut answers = [answer; 2];
+    let mut orders = [any_answer().order; 2];
+    let mut answers = [any_answer(); 2];
     let mut queues = Queues::over(&mut orders, &mut answers);
     let mut master = Master::new();
     let mut normal = 0u32;

@@ -78,19 +78,19 @@ abbrev pub beginning : Card → Meaning → Scene
 beginning c line = record { card = c; line = line; sent = [] }
 
 abbrev pub with_rows : List Row → Control → Control
-with_rows rs m = record { mode = m.mode; offline = m.offline; power_fail = m.power_fail; phase = m.phase; step = m.step; rows = rs }
+with_rows rs m = record m { rows = rs }
 
 abbrev pub with_mode : Mode → Control → Control
-with_mode mode m = record { mode = mode; offline = m.offline; power_fail = m.power_fail; phase = m.phase; step = m.step; rows = m.rows }
+with_mode mode m = record m { mode = mode }
 
 abbrev pub with_phase : Phase → Control → Control
-with_phase p m = record { mode = m.mode; offline = m.offline; power_fail = m.power_fail; phase = p; step = m.step; rows = m.rows }
+with_phase p m = record m { phase = p }
 
 abbrev pub with_step : Stage → Control → Control
-with_step t m = record { mode = m.mode; offline = m.offline; power_fail = m.power_fail; phase = m.phase; step = t; rows = m.rows }
+with_step t m = record m { step = t }
 
 abbrev pub with_control : Control → Card → Card
-with_control m c = record { control = m; orders = c.orders; answers = c.answers; order_room = c.order_room; answer_room = c.answer_room }
+with_control m c = record c { control = m }
 
 -- Visits
 
@@ -122,18 +122,7 @@ ending_at s o = manage_ending s.line.power o.asking (row_at o.to s.card.control.
 -- order o has ended so, and these wait behind it
 abbrev pub answered : Sent → Ending → List Sent → Scene → Scene
 answered o end rest s =
-    record {
-      card =
-          record {
-            control = s.card.control;
-            orders = rest;
-            answers = s.card.answers ++ record { order = o; how = end } ∷ [];
-            order_room = s.card.order_room;
-            answer_room = s.card.answer_room;
-          };
-      line = s.line;
-      sent = s.sent;
-    }
+    record s { card = record s.card { orders = rest; answers = s.card.answers ++ record { order = o; how = end } ∷ [] } }
 
 abbrev pub carry_out : Sent → List Sent → Scene → Scene
 carry_out o rest s = answered o (ending_at s o) rest (everywhere (only o.to (manage_visit s.line.power o.asking)) s)
@@ -146,7 +135,7 @@ unfoldable pub manage : Scene → Scene
 manage s = manage_by s.card.orders s
 
 abbrev pub stepping : Stage → Scene → Scene
-stepping t s = record { card = with_control (with_step t s.card.control) s.card; line = s.line; sent = s.sent }
+stepping t s = record s { card = with_control (with_step t s.card.control) s.card }
 
 -- the search is at step t, and takes address b
 abbrev pub search_at : Stage → ℕ → Scene → Scene
@@ -163,7 +152,7 @@ search_on s = search_from s.card.control.step s
 -- The phases
 
 abbrev pub phased : Phase → Scene → Scene
-phased p s = record { card = with_control (with_phase p s.card.control) s.card; line = s.line; sent = s.sent }
+phased p s = record s { card = with_control (with_phase p s.card.control) s.card }
 
 -- the offline phase is requested, or power is down
 abbrev pub held_off : Control → Meaning → Bool
@@ -172,9 +161,7 @@ held_off m line = m.offline || not line.power
 -- nothing is sent; what was detected becomes as new, power fail is whether power is down, and without request and with power detection is next
 abbrev pub kept_offline : Bool → Control → Control
 kept_offline power m =
-    record {
-      mode = m.mode;
-      offline = m.offline;
+    record m {
       power_fail = not power;
       phase = cond (m.offline || not power) Offline Detection;
       step = seek 0;
@@ -183,7 +170,7 @@ kept_offline power m =
 
 unfoldable pub stay_offline : Scene → Scene
 stay_offline s =
-    record { card = with_control (kept_offline s.line.power s.card.control) s.card; line = s.line; sent = s.sent }
+    record s { card = with_control (kept_offline s.line.power s.card.control) s.card }
 
 abbrev pub run : Phase → Scene → Scene
 run Offline s = stay_offline s

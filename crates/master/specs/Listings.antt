@@ -1,4 +1,5 @@
 -- What a reading of the lists shows: for each address whether it is in LDS, LAS and LPS, and the flags.
+-- A reader compares the fields with "Reading lists" in docs/RECORD.md.
 use Rattle.std.specs.Prelude.{◌≡◌, ℕ, ◌<◌}
 use Rattle.lists.specs.Members.{has}
 use Rattle.records.specs.Rows.{row_at, config_ok}

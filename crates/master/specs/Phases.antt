@@ -1,4 +1,5 @@
 -- The letters by which phases are listed.
+-- They are the first letters of the names.
 use Rattle.std.specs.Prelude.{ℕ}
 use Rattle.master.specs.declared.master.Phase.{Phase}
 use Rattle.master.specs.declared.master.Phase.TheVariants.{Offline, Detection, Activation, Normal}

@@ -1,5 +1,6 @@
 -- Placing an order: when it is refused, and what the queue holds afterwards.
 -- The refusals come in the order of the product's table: a bad address, a bad value, a wrong phase, an inactive address, no room.
+-- A reader compares the order of the tests with docs/REFUSALS.md.
 use Rattle.std.specs.Prelude.{◌≡◌, ℕ, Bool, true, false, cond, List, length, Result}
 use Rattle.values.specs.declared.refusal.Refusal.{Refusal}
 use Rattle.values.specs.Refusals.{Outcome, gives, refuses, refuses_for, outcome}

@@ -1,4 +1,5 @@
 -- Orders of the controller: what each sends, and what may become of it.
+-- A reader compares them with docs/RECORD.md and the second table of docs/REFUSALS.md.
 use Rattle.std.specs.Prelude.{ℕ, cond, Ok, Err, Result}
 use Rattle.values.specs.Refusals.{Outcome, gives, refuses}
 use Rattle.telegrams.specs.Requests.{Sent, Heard, nibble, silence, disturbed, write_parameter, resetting}

@@ -1,4 +1,5 @@
 -- Detection: Read_IO is sent to every address, and after a nibble Read_ID. Two nibbles put the address into LDS with that CDI.
+-- A reader compares it with docs/CYCLE.md.
 use Rattle.std.specs.Prelude.{ℕ, Bool, true, [], ◌∷◌}
 use Rattle.telegrams.specs.Requests.{Heard, nibble, silence, disturbed, read_io, read_id}
 use Rattle.stations.specs.Stations.{Place, after, reply}

@@ -1,5 +1,6 @@
 -- Data exchange: ODI is sent to every address of LAS. A nibble goes to IDI and clears the misses. Anything else adds a miss, and the third
 -- miss in succession takes the address out of LAS and LDS, and sets CDI to 15/15, IDI and misses to 0.
+-- A reader compares it with docs/CYCLE.md.
 use Rattle.std.specs.Prelude.{ℕ, ◌+◌, Bool, false, cond, [], ◌∷◌, nat_lt}
 use Rattle.telegrams.specs.Requests.{Heard, nibble, silence, disturbed, data_exchange}
 use Rattle.stations.specs.Stations.{Place, after, reply}

@@ -1,5 +1,6 @@
 -- A visit: what the master does at one address. From the row and the station there it makes the row and the station afterwards, and what
 -- was sent. A part of a cycle visits each address, lowest first.
+-- What the visits are is said where each part of a cycle is; here is only how they are put together, the same for all of them.
 use Rattle.std.specs.Prelude.{◌≡◌, ℕ, zero, suc, Bool, List, [], ◌∷◌, ◌++◌, length, slice_set}
 use Rattle.telegrams.specs.Requests.{Asking, Sent}
 use Rattle.values.specs.Tables.{table}

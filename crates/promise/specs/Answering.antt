@@ -1,6 +1,7 @@
 -- Orders: each is answered in its turn, in time, and answers are collected in the order in which the orders were accepted.
 -- An order is known by its number: how many were accepted before it. The answers that cycles put are numbered too, and FirstCome says that
 -- the answers put are those of the first orders accepted: so answer number n is that of order number n.
+-- docs/PROMISE.md sets the records beside the words.
 use Rattle.std.specs.Prelude.{◌≡◌, ℕ, ◌+◌, ◌<◌, ◌≤◌, Bool, true, cond, List, [], ◌∷◌, ◌++◌, map, length, drop}
 use Rattle.std.specs.List.{AllByRecursion}
 use Rattle.values.specs.Refusals.{Outcome, gives, refuses_for, accepts}

@@ -1,4 +1,5 @@
 -- A normal cycle exchanges exactly once with each address that is active at its start, and with no other. It sends at most 33 requests.
+-- The requests are those that the rules send in that cycle (`cycle`); docs/PROMISE.md says what follows for the program.
 use Rattle.std.specs.Prelude.{◌≡◌, ℕ, ◌≤◌, cond, [], ◌∷◌, length}
 use Rattle.records.specs.Rows.{row_at}
 use Rattle.lines.specs.Lines.{Meaning}

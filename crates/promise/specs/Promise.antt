@@ -11,7 +11,7 @@ use Rattle.promise.specs.Once.{OnceEach}
 use Rattle.promise.specs.Answering.{FirstCome, AnsweredInTurn}
 
 pub record Promise (new : Card) (ts : List Turn) : Type 0 where
-  -- a module that is plugged in after p and stays through q is exchanged in cycle 98 from there and in every later one, whatever comes in r
+  -- with a module that is plugged in after p and stays through q, data is exchanged in cycle 98 from there and in every later one, whatever comes in r
   pub waiting_bound : (p q r : List Turn) → ts ≡ p ++ q ++ r → WaitingBound (after p new) q
   -- each accepted order is answered in its turn, in time and in no other cycle; answers are collected in the order of acceptance
   pub answered_in_turn : (p q : List Turn) (w : Placement) → ts ≡ p ++ calling (placing w) ∷ q → AnsweredInTurn new p w q

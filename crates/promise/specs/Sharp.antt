@@ -41,7 +41,7 @@ Untouched (d ∷ ds) = MeetsAsLeft d ds × Untouched ds
 abbrev pub PassesBy : ℕ → Met → Type 0
 PassesBy b d = exchanges (sent_to b (done d).sent) ≡ []
 
--- p came before plugging at b, and n + 1 cycles came after it: the module is exchanged in the last of them, and in none before
+-- p came before plugging at b, and n + 1 cycles came after it: data is exchanged with the module in the last of them, and in none before
 pub record WaitsLongest (n b : ℕ) (p q : List Turn) : Type 0 where
   pub lawful_before : list_all lawful (lines_met p) ≡ true
   pub lawful_plugged : list_all lawful (take 1 (lines_met q)) ≡ true

@@ -1,5 +1,6 @@
 -- Successions: what the controller may do with one master and its queues from new, call by call, and what has become of them afterwards.
 -- A succession is a list of cycles, each with the line as it met it, and of other calls with any numbers. What a refused call leaves is what it found.
+-- Nothing is decided here: each call does what the definition says that its contract cites.
 use Rattle.std.specs.Prelude.{ℕ, Bool, List, [], ◌∷◌, length}
 use Rattle.values.specs.Refusals.{Outcome, gives, refuses_for}
 use Rattle.queues.specs.Fifo.{take_after}
@@ -51,10 +52,10 @@ waiting_after (gives q) o waiting = orders_after o q waiting
 waiting_after (refuses_for n c) o waiting = waiting
 
 abbrev pub with_queues : List Sent → List Told → Card → Card
-with_queues os xs c = record { control = c.control; orders = os; answers = xs; order_room = c.order_room; answer_room = c.answer_room }
+with_queues os xs c = record c { orders = os; answers = xs }
 
 abbrev pub with_offline : Bool → Control → Control
-with_offline on m = record { mode = m.mode; offline = on; power_fail = m.power_fail; phase = m.phase; step = m.step; rows = m.rows }
+with_offline on m = record m { offline = on }
 
 -- edits in this mode, one after another
 abbrev pub all_edited : Mode → List Edit → List Row → List Row

@@ -1,6 +1,7 @@
--- The waiting bound: a module that is plugged in is exchanged in cycle 98 and in every later one.
+-- The waiting bound: with a module that is plugged in and stays, data is exchanged in cycle 98 and in every later one.
 -- Plugging lies anywhere in a succession: what came before has led to card c, q comes after it, and cycle 1 is the first of q. Every
 -- hypothesis speaks of the cycles of q alone, each as it began.
+-- docs/PROMISE.md sets the fields of `Admitted`, `StaysPlugged` and `Exchanged` beside the words, one by one.
 use Rattle.std.specs.Prelude.{◌≡◌, ℕ, ◌+◌, ◌<◌, ◌≤◌, true, false, cond, List, [], ◌∷◌, drop, ◌==◌}
 use Rattle.std.specs.List.{AllByRecursion}
 use Rattle.telegrams.specs.Requests.{Asking, Sent, nibble, data_exchange, write_parameter, read_io, read_id, resetting}
@@ -48,8 +49,7 @@ codes_of x = record { io = x.io; id = x.id }
 
 -- the field sets a module's inputs
 abbrev pub with_inputs : ℕ → State → State
-with_inputs n x =
-    record { io = x.io; id = x.id; inputs = n; outputs = x.outputs; parameter = x.parameter; direction = x.direction; enabled = x.enabled; disturbance = x.disturbance }
+with_inputs n x = record x { inputs = n }
 
 -- in protected mode the address is projected with the module's codes
 abbrev pub ProjectedSo : Mode → Row → State → Type 0
@@ -95,7 +95,7 @@ pub record StaysPlugged (b : ℕ) (ds : List Met) : Type 0 where
   pub admitted : AllByRecursion (Stays b) ds
   pub left : LeftInPlace b ds
 
--- From card c on, as plugging finds it, through q: after n cycles the module is exchanged in every one
+-- From card c on, as plugging finds it, through q: after n cycles data is exchanged with the module in every one
 abbrev pub WaitsAtMost : ℕ → Card → List Turn → Type 0
 WaitsAtMost n c q = (b : ℕ) → 1 ≤ b → b < 32 → StaysPlugged b (cycles c q) → AllByRecursion (Exchanged b) (drop n (cycles c q))
 

@@ -34,8 +34,8 @@ count_of (occupied x) = x.disturbance
 abbrev row : ℕ → ℕ → Example
 row made expected = record { made = made; expected = expected }
 
-abbrev pub worked_examples_lem : List Example
-worked_examples_lem =
+abbrev pub example_rows : List Example
+example_rows =
     row (request_word (to_address 3 (data_exchange 15))) 445
     ∷ row (request_word (to_address 0 read_io)) 4161
     ∷ row (request_word (to_address 3 read_id)) 4551
@@ -54,4 +54,4 @@ worked_examples_lem =
     ∷ []
 
 abbrev pub WorkedExamples : Type 0
-WorkedExamples = AllByRecursion (λ e. e.made ≡ e.expected) worked_examples_lem
+WorkedExamples = AllByRecursion (λ e. e.made ≡ e.expected) example_rows

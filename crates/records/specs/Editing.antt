@@ -1,4 +1,5 @@
 -- An edit that was made: what it came to, and what it changed. The mode is never an edit's to change.
+-- Both relations join an outcome and the rows by the rules in Edits.antt, and add only that the mode stays.
 use Rattle.std.specs.Prelude.{◌≡◌, Result}
 use Rattle.values.specs.Refusals.{outcome}
 use Rattle.values.specs.declared.refusal.Refusal.{Refusal}

@@ -1,6 +1,7 @@
 -- Edits of the projected configuration: what each does to the rows, and when it is refused.
 -- An edit asks for configuration mode; an opened projection is in that mode. The first refusal that applies is returned, and
 -- nothing changes then.
+-- A reader compares them with the list of edits in docs/RECORD.md.
 use Rattle.std.specs.Prelude.{ℕ, Bool, true, false, cond, ◌&&◌, List, ◌==◌, nat_lt, slice_set}
 use Rattle.values.specs.Refusals.{Outcome, gives, refuses, accepts}
 use Rattle.values.specs.Tables.{table}

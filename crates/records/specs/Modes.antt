@@ -1,4 +1,5 @@
 -- Setting the mode: protected mode is refused with 8385 while address 0 is in LDS, and the mode then stays as it is.
+-- A reader compares it with docs/RECORD.md.
 use Rattle.std.specs.Prelude.{Bool, true, false, cond, List}
 use Rattle.values.specs.Refusals.{Outcome, gives, refuses, accepts}
 use Rattle.records.specs.Rows.{Row, row_at}

@@ -1,5 +1,6 @@
 -- The record as the rules speak of it: a row for each address, with its place in the three lists and its values.
 -- Nothing here knows how the program stores them.
+-- A reader compares the values of a new row, and what writing outputs and reading inputs come to, with docs/RECORD.md.
 use Rattle.std.specs.Prelude.{ℕ, ◌-◌, Bool, false, cond, not, ◌&&◌, List, ◌==◌, nat_lt, slice_index_or, slice_set}
 use Rattle.values.specs.Refusals.{Outcome, gives, refuses, accepts}
 use Rattle.values.specs.Tables.{table}

@@ -1,5 +1,6 @@
 -- What the search does: at the address that its step takes it sends at most one request, and by the reply it changes the row there and
 -- goes on to the next step. An address that does not give its codes leaves LDS, and its CDI becomes 15/15.
+-- A reader compares the visits with the table of the search in docs/CYCLE.md.
 use Rattle.std.specs.Prelude.{◌≡◌, ℕ, Bool, List, [], ◌∷◌}
 use Rattle.telegrams.specs.Requests.{Heard, nibble, silence, disturbed, read_io, read_id}
 use Rattle.stations.specs.Stations.{Place, after, reply}

@@ -3,7 +3,7 @@ use Rattle.std.proofs.Common.{◌≡◌, ℕ, ◌/◌, ◌%◌, ◌^◌, ◌<◌
 use Rattle.std.proofs.lemmas.Bool.{cases_eq, eq-eqb, ne_eqb, eqb-true, cond-true, and_parts, and_from, or_cases, or_right}
 use Rattle.stations.specs.declared.station.Module.{Module}
 use Rattle.stations.specs.Stations.{State, Place, vacant, occupied, state_of, held}
-use Rattle.stations.specs.Images.{state_in, place_in, word_of, mark_bit, good_station, good_power, power_word_lem}
+use Rattle.stations.specs.Images.{state_in, place_in, word_of, mark_bit, good_station, good_power, word_of_power}
 
 -- One word
 
@@ -85,10 +85,10 @@ says (Some m) =
 
 -- The power word
 
-pub power_good : (b : Bool) → good_power (power_word_lem b) ≡ true
+pub power_good : (b : Bool) → good_power (word_of_power b) ≡ true
 power_good true = refl
 power_good false = refl
 
-pub power_read : (b : Bool) → eqb (power_word_lem b) (power_word_lem true) ≡ b
+pub power_read : (b : Bool) → eqb (word_of_power b) (word_of_power true) ≡ b
 power_read true = refl
 power_read false = refl

@@ -1,4 +1,5 @@
--- What stands at the stations of a line, and what a request does there: the rules of one module, in their order.
+-- What stands at the stations of a line, and what a request does there: first what an undisturbed module obeys and answers (rules 3 to 7), then the
+-- station around it (rules 1 and 2).
 -- A reader compares `obeyed`, `answer`, `after` and `reply` with the rules in docs/LINES.md, line by line; nothing else is said of a module.
 use Rattle.std.specs.Prelude.{ℕ, ◌-◌, Bool, true, false, cond, not, ◌||◌, Some, None, Option, ◌==◌, bit_and, bit_or, nat_lt}
 use Rattle.telegrams.specs.Requests.{Asking, Heard, data_exchange, write_parameter, read_io, read_id, resetting, nibble, silence, disturbed}

@@ -1,6 +1,6 @@
 ghost use Rattle.std.specs.Prelude.{◌≡◌, ◌+◌, ◌*◌, ◌<◌, length};
 ghost use Rattle.values.specs.Refusals.{outcome};
-ghost use Rattle.stations.specs.Images.{word_at, words_in_lem, image_from};
+ghost use Rattle.stations.specs.Images.{word_at, words_of_bytes, image_from};
 
 use super::image::IMAGE_WORDS;
 use std::array;
@@ -20,7 +20,7 @@ fn word_at(bytes: &[u8], k: usize) -> u32
 
 fn words_in(bytes: &[u8]) -> [u32; IMAGE_WORDS]
     requires { length bytes.now ≡ 132 }
-    ensures { result ≡ words_in_lem bytes.now }
+    ensures { result ≡ words_of_bytes bytes.now }
 {
     array::from_fn(|k| word_at(bytes, k))
 }

@@ -2,7 +2,7 @@ ghost use Rattle.std.specs.Prelude.{◌≡◌, true, length};
 ghost use Rattle.values.specs.Refusals.{outcome};
 ghost use Rattle.std.specs.List.{list_all};
 ghost use Rattle.stations.specs.Stations.{place_of};
-ghost use Rattle.stations.specs.Images.{place_in, word_of, power_word_lem, good_station, good_power, good_image, tested};
+ghost use Rattle.stations.specs.Images.{place_in, word_of, word_of_power, good_station, good_power, good_image, tested};
 
 use super::station::{Disturbance, Module, Station};
 use values::nibble::Nibble;
@@ -74,7 +74,7 @@ fn are_station_words(words: &[u32]) -> bool
 
 /// The word that says whether power is up.
 pub fn power_word(powered: bool) -> u32
-    ensures { result ≡ power_word_lem powered }
+    ensures { result ≡ word_of_power powered }
 {
     if powered { POWER_UP } else { POWER_DOWN }
 }

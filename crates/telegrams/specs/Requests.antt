@@ -1,6 +1,7 @@
 -- Requests and replies by the numbers in them, which requests there are, and what the calls that make one return.
 -- The five requests are those of EN 50295 that this master sends. Data_Exchange and Write_Parameter go to a module's address,
 -- 1 to 31, and carry a nibble; the three commands go to any address, 0 to 31.
+-- A reader compares the rows with the table of requests in docs/TELEGRAMS.md.
 use Rattle.std.specs.Prelude.{ℕ, ◌<◌, cond, ◌&&◌, nat_lt}
 use Rattle.values.specs.Refusals.{Outcome, gives, refuses}
 use Rattle.telegrams.specs.declared.request.Request.{Request}

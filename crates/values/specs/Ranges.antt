@@ -1,4 +1,5 @@
 -- Which numbers are nibbles and addresses, and what a call that is given another one returns.
+-- A reader compares the three ranges and their numbers with docs/TELEGRAMS.md.
 use Rattle.std.specs.Prelude.{◌≡◌, ℕ, ◌<◌, cond, ◌&&◌, nat_lt, Some, None, Option}
 use Rattle.values.specs.declared.up_to.UpTo.{UpTo}
 use Rattle.values.specs.Refusals.{Outcome, gives, refuses}

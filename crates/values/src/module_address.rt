@@ -3,7 +3,7 @@ ghost use Rattle.std.specs.Prelude.{◌≡◌, ◌+◌, ◌%◌, ◌<◌};
 use super::address::Address;
 use super::refusal::Refusal;
 
-/// An address 1 to 31: one that a module is exchanged at.
+/// An address 1 to 31: one at which data is exchanged.
 // No `UpTo`: with a lowest number as a second parameter, some pairs would have no number between them, and `nth` would owe that there is one.
 #[derive(Clone, Copy, PartialEq, Eq)]
 pub struct ModuleAddress {

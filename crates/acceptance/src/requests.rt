@@ -52,7 +52,7 @@ fn due(master: &Master, words: &mut [u32; KEPT]) -> usize {
             if let Some(word) = words.get_mut(count) {
                 *word = encode_request(Request::DataExchange(to, odi));
             }
-            count = (count + 1).min(KEPT);
+            count = count.saturating_add(1);
         }
     }
     count
@@ -66,7 +66,7 @@ fn check_cycle<L: Line>(
     queues: &mut Queues,
 ) -> Phase {
     let mut expected = [0; KEPT];
-    let exchanges = due(master, &mut expected);
+    let exchanges = due(master, &mut expected).min(KEPT);
     line.count = 0;
     let report = master.cycle(line, queues);
     assert_eq!(rt; line.count, report.requests as usize);
@@ -103,7 +103,7 @@ fn requests_sent(rt: HostRuntime) -> Result<(), Fail> {
         let _ = master.place_reset(&mut queues, k % 31 + 1);
         let _ = master.table.write_outputs(k % 31 + 1, k % 16);
         if check_cycle(&rt, &mut master, &mut line, &mut queues) == Phase::Normal {
-            normal += 1;
+            normal = normal.saturating_add(1);
         }
         let _ = queues.collect();
     }

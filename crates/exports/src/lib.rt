@@ -5,4 +5,4 @@ pub mod cycles;
 pub mod logged;
 pub mod replay;
 pub mod script;
-pub mod telegrams;
+pub mod words;

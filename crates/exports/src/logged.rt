@@ -11,6 +11,7 @@ pub const LOG_WORDS: usize = 111;
 
 /// Where the rows begin, two words for each address, and where the image begins.
 const ROWS: usize = 14;
+
 const IMAGE: usize = 78;
 
 fn phase_number(phase: Phase) -> u32 {

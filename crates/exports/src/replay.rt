@@ -155,8 +155,9 @@ pub extern "C" fn asi_replay(
             return made;
         };
         let came = outcome_words(outcome);
-        let words_logged: [u32; LOG_WORDS] =
-            array::from_fn(|k| logged_word(k, &came, &master, &queues, words));
+        let words_logged: [u32; LOG_WORDS] = array::from_fn(|k| logged_word(
+            k, &came, &master, &queues, words,
+        ));
         logged.copy_from_slice(&words_logged);
     }
     entries

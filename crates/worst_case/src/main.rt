@@ -91,7 +91,7 @@ fn full_image() -> [u32; IMAGE_WORDS]
 }
 
 // By the count of calls, which is all that a plant is told.
-/// Who swaps the rack: for one with the former module alone, and at plugging for one with a new module at every address.
+/// Swaps the rack: for one with the former module alone, and at plugging for one with a new module at every address.
 #[derive(Drop)]
 struct Plugging {
     calls: u32,

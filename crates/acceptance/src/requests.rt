@@ -28,6 +28,8 @@ impl<L: Line> Line for Recorder<L> {
 
     ghost stations = { λ r. L.Line.stations r.below };
 
+    ghost carried = { λ _ _ _. Unit {0} };
+
     fn is_powered(&self) -> bool {
         self.below.is_powered()
     }

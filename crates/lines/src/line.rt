@@ -1,5 +1,5 @@
 ghost use Rattle.std.specs.Prelude.{◌≡◌, ℕ, Bool};
-ghost use Rattle.telegrams.specs.Requests.{sent, heard};
+ghost use Rattle.telegrams.specs.Requests.{Sent, sent, heard};
 ghost use Rattle.stations.specs.Stations.{Place};
 ghost use Rattle.values.specs.Tables.{table};
 ghost use Rattle.lines.specs.Lines.{line_after, line_reply};
@@ -12,11 +12,15 @@ pub trait Line {
 
     ghost stations: { Self → ℕ → Place };
 
+    // That a request was carried. Who is given any line knows nothing of it but that `carry` makes it hold.
+    ghost carried: { Self → Sent → Self → Type 0 };
+
     fn is_powered(&self) -> bool
         ensures { result ≡ power self.now };
 
     fn carry(&mut self, request: Request) -> Reply
         ensures power { power self.new ≡ power self.old }
         ensures after { table (stations self.new) ≡ line_after (power self.old) (sent request) (table (stations self.old)) }
-        ensures reply { heard result ≡ line_reply (power self.old) (sent request) (table (stations self.old)) };
+        ensures reply { heard result ≡ line_reply (power self.old) (sent request) (table (stations self.old)) }
+        ensures carried { carried self.old (sent request) self.new };
 }

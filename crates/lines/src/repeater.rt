@@ -47,6 +47,8 @@ impl<L: Line> Line for Repeater<L> {
 
     ghost stations = { λ r a. halved (L.Line.stations r.below a) };
 
+    ghost carried = { λ _ _ _. Unit {0} };
+
     fn is_powered(&self) -> bool
         ensures { result ≡ L.Line.power self.now.below }
     {

@@ -1,6 +1,6 @@
 -- The parts of a cycle on a record, seen as what the rules make of a moment of the cycle.
-use Rattle.std.proofs.Common.{◌≡◌, ℕ, ◌+◌, ◌<◌, Bool, true, false, cond, not, ◌||◌, ltb, List, [], ◌∷◌, map, length, Some, None, Option, sym, refl, ap, ◌∙◌, subst, arith}
-use Rattle.std.proofs.lemmas.List.{length-append, length-map}
+use Rattle.std.proofs.Common.{◌≡◌, ℕ, ◌+◌, ◌<◌, Bool, true, false, cond, not, ◌||◌, ltb, List, [], ◌∷◌, ◌++◌, map, length, Some, None, Option, sym, refl, ap, ◌∙◌, subst, arith}
+use Rattle.std.proofs.lemmas.List.{append-nil, length-append, length-map}
 use Rattle.telegrams.specs.Requests.{Sent}
 use Rattle.stations.specs.Stations.{Place}
 use Rattle.lines.specs.Lines.{Meaning, at}
@@ -11,16 +11,16 @@ use Rattle.phases.specs.Exchange.{exchange_visit}
 use Rattle.queues.specs.Fifo.{held, room, oldest_of, take_after}
 use Rattle.orders.specs.Orders.{ordered, Told, told}
 use Rattle.orders.specs.Queues.{waiting, uncollected, Served}
-use Rattle.orders.specs.Management.{manage_visit, next_order, Managed}
+use Rattle.orders.specs.Management.{manage_visit, next_order, sent_for, Managed}
 use Rattle.orders.specs.declared.order.Order.{Order}
 use Rattle.orders.specs.declared.order.Order.TheVariants.{Parameter, Reset}
 use Rattle.orders.specs.declared.pair.Queues.{Queues}
 use Rattle.search.specs.Steps.{Stage}
-use Rattle.search.specs.Searches.{search_visit, taken_by, next_step, Searched}
+use Rattle.search.specs.Searches.{search_visit, taken_by, next_step, search_sent, Searched}
 use Rattle.master.specs.Cycles.{Control, Card, Scene, with_rows, with_phase, with_step, with_control, beginning, visit_made, everywhere, only, exchange, ending_at, answered, carry_out, manage_by, manage, search_on, phased, kept_offline, stay_offline, run, running, cycle, Became, Cycled}
 use Rattle.master.specs.declared.master.Phase.{Phase}
 use Rattle.master.specs.declared.master.Phase.TheVariants.{Offline, Normal}
-use Rattle.master.proofs.Visiting.{only_visited}
+use Rattle.master.proofs.Visiting.{only_visited, only_sent}
 
 -- a scene, from what it has become
 scene_is : (s : Scene) (c : Card) (l : Meaning) (n : ℕ) → Became s c l n → record { card = c; line = l; sent = s.sent } ≡ s
@@ -72,6 +72,18 @@ module _ (c : Card) (l : Meaning) (qs : List Sent) (n : ℕ) (so_far : n ≡ len
         line_is = all.line_is;
         counted = all.counted;
       }
+
+-- what was sent
+
+pub visited_sent : (c : Card) (l : Meaning) (visit : ℕ → Row → Place → Visit) → (everywhere visit (beginning c l)).sent ≡ sent_below 32 (λ a. (visit a (row_at a c.control.rows) (at l.places a)).sent)
+unfolding everywhere
+visited_sent c l visit = refl
+
+searched_sent : (c : Card) (l : Meaning) (qs : List Sent) → taken_by c.control.rows c.control.step < 32 → (search_on (record { card = c; line = l; sent = qs })).sent ≡ qs ++ search_sent c.control.mode l.power c.control.step c.control.rows l.places
+unfolding search_on everywhere
+searched_sent c l qs inside =
+    let to : ℕ = taken_by c.control.rows c.control.step in
+    ap (λ (rs : List Sent). qs ++ rs) (only_sent (search_visit c.control.mode l.power c.control.step to) to c.control.rows l.places inside)
 
 abbrev card_with : Control → Queues → Card
 card_with m q = record { control = m; orders = waiting q; answers = uncollected q; order_room = room q.orders; answer_room = room q.answers }
@@ -132,6 +144,34 @@ module _ (m : Control) (q q' : Queues) (l : Meaning) (qs : List Sent) (n : ℕ) 
       managed_by (held q.orders) refl
       (subst (λ (j : ℕ). ManagedSo (cond (ltb j (room q.answers)) (oldest_of (held q.orders)) None)) (sym (length-map (held q.answers) told)) managed)
 
+module _ (m : Control) (q : Queues) (l : Meaning) (qs : List Sent) where
+  abbrev SentSo : Option Order → Scene → Type 0
+  SentSo o s = s.sent ≡ qs ++ sent_for l.power o m.rows l.places
+
+  abbrev before : Scene
+  before = record { card = card_with m q; line = l; sent = qs }
+
+  carried_out : (o : Order) (rest : List Order) → SentSo (Some o) (carry_out (ordered o) (map ordered rest) before)
+  unfolding everywhere
+  carried_out o rest = ap (λ (rs : List Sent). qs ++ rs) (only_sent (manage_visit l.power (ordered o).asking) (ordered o).to m.rows l.places (order_inside o))
+
+  where_free : (t : Bool) (o : Order) (rest : List Order) → SentSo (cond t (Some o) None) (cond t (carry_out (ordered o) (map ordered rest) before) before)
+  where_free true o rest = carried_out o rest
+  where_free false o rest = sym (append-nil qs)
+
+  no_order_sent : (t : Bool) → SentSo (cond t None None) before
+  no_order_sent true = sym (append-nil qs)
+  no_order_sent false = sym (append-nil qs)
+
+  sent_by : (os : List Order) → SentSo (cond (ltb (length (uncollected q)) (room q.answers)) (oldest_of os) None) (manage_by (map ordered os) before)
+  sent_by [] = no_order_sent (ltb (length (uncollected q)) (room q.answers))
+  sent_by (o ∷ rest) = where_free (ltb (length (uncollected q)) (room q.answers)) o rest
+
+  managed_sent : SentSo (next_order q) (manage before)
+  unfolding manage
+  managed_sent =
+      subst (λ (j : ℕ). SentSo (cond (ltb j (room q.answers)) (oldest_of (held q.orders)) None) (manage before)) (length-map (held q.answers) told) (sent_by (held q.orders))
+
 -- a phase that visits each address, and the phase that is next
 pub visited_run : (c : Card) {l l' : Meaning} {visit : Bool → ℕ → Row → Place → Visit} {next : Phase} {rs' : List Row} {n : ℕ} → AllVisited visit c.control.rows rs' l l' n → Became (phased next (everywhere (visit l.power) (beginning c l))) (with_control (with_phase next (with_rows rs' c.control)) c) l' n
 visited_run c {l} {l'} {visit} {next} {rs'} {n} visited =
@@ -151,6 +191,8 @@ pub normal_run :
     Managed (next_order q) q q' rs₁ rs₂ l₁ l₂ n₂ →
     Searched mode m.step t rs₂ rs₃ l₂ l₃ n₃ →
     Became (run Normal (beginning (card_with m q) l)) (card_with (with_step t (with_rows rs₃ m)) q') l₃ (n₁ + n₂ + n₃)
+    × ((run Normal (beginning (card_with m q) l)).sent
+    ≡ (sent_below 32 (λ a. (exchange_visit l.power (row_at a m.rows) (at l.places a)).sent) ++ sent_for l₁.power (next_order q) rs₁ l₁.places) ++ search_sent mode l₂.power m.step rs₂ l₂.places)
 normal_run {m} {q} {q'} {l} {l₁} {l₂} {l₃} {mode} {t} {rs₁} {rs₂} {rs₃} {n₁} {n₃} n₂ rows_1 places_1 rows_2 places_2 inside same served exchanged managed searched =
     let c₁ : Card = card_with (with_rows rs₁ m) q in
     let c₂ : Card = card_with (with_rows rs₂ m) q' in
@@ -165,7 +207,25 @@ normal_run {m} {q} {q'} {l} {l₁} {l₂} {l₃} {mode} {t} {rs₁} {rs₂} {rs�
     let third : Became (search_on s₂) c₃ l₃ (0 + n₁ + n₂ + n₃) =
     subst (λ (s : Scene). Became (search_on s) c₃ l₃ (0 + n₁ + n₂ + n₃)) (scene_is s₂ c₂ l₂ (0 + n₁ + n₂) second)
     (searched_on c₂ l₂ s₂.sent (0 + n₁ + n₂) second.counted t rs₃ l₃ n₃ rows_2 places_2 inside searched') in
-    record { card_is = third.card_is; line_is = third.line_is; counted = omega (arith, third.counted) }
+    let sent₁ : s₁.sent ≡ sent_below 32 (λ a. (exchange_visit l.power (row_at a m.rows) (at l.places a)).sent) = visited_sent (card_with m q) l (λ a. exchange_visit l.power) in
+    let sent₂ : s₂.sent ≡ s₁.sent ++ sent_for l₁.power (next_order q) rs₁ l₁.places =
+    subst (λ (s : Scene). (manage s).sent ≡ s₁.sent ++ sent_for l₁.power (next_order q) rs₁ l₁.places) (scene_is s₁ c₁ l₁ (0 + n₁) first) (managed_sent (with_rows rs₁ m) q l₁ s₁.sent) in
+    let sent₃ : (search_on s₂).sent ≡ s₂.sent ++ search_sent m.mode l₂.power m.step rs₂ l₂.places =
+    subst (λ (s : Scene). (search_on s).sent ≡ s₂.sent ++ search_sent m.mode l₂.power m.step rs₂ l₂.places) (scene_is s₂ c₂ l₂ (0 + n₁ + n₂) second) (searched_sent c₂ l₂ s₂.sent inside) in (
+      record { card_is = third.card_is; line_is = third.line_is; counted = omega (arith, third.counted) },
+      sent₃
+          ∙ ap (λ (rs : List Sent). rs ++ search_sent m.mode l₂.power m.step rs₂ l₂.places) (sent₂ ∙ ap (λ (rs : List Sent). rs ++ sent_for l₁.power (next_order q) rs₁ l₁.places) sent₁)
+          ∙ ap (λ (k : Mode). (sent_below 32 (λ a. (exchange_visit l.power (row_at a m.rows) (at l.places a)).sent) ++ sent_for l₁.power (next_order q) rs₁ l₁.places) ++ search_sent k l₂.power m.step rs₂ l₂.places) (sym same),
+    )
+
+pub offline_sent : (c : Card) (l : Meaning) → (run Offline (beginning c l)).sent ≡ []
+unfolding stay_offline
+offline_sent c l = refl
+
+pub whole_sent : (c : Card) (l : Meaning) {power : Bool} {phase : Phase} → power ≡ l.power → phase ≡ cond (c.control.offline || not power) Offline c.control.phase → (run phase (beginning c l)).sent ≡ (cycle c l).sent
+unfolding cycle
+whole_sent c l {power} {phase} lit is =
+    ap (λ (p : Phase). (run p (beginning c l)).sent) (is ∙ ap (λ (p : Bool). cond (c.control.offline || not p) Offline c.control.phase) lit)
 
 pub whole_cycle : {c : Card} {l : Meaning} {power : Bool} {phase : Phase} {c' : Card} {l' : Meaning} {n : ℕ} → power ≡ l.power → phase ≡ cond (c.control.offline || not power) Offline c.control.phase → Became (run phase (beginning c l)) c' l' n → Cycled c l phase n c' l'
 unfolding cycle

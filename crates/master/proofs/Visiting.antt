@@ -1,10 +1,10 @@
 -- A visit to one address, written as a visit to each address that leaves all the others alone.
-use Rattle.std.proofs.Common.{◌≡◌, ℕ, zero, suc, ◌+◌, ◌<◌, ◌≤◌, Bool, eqb, List, [], length, get_or, set, sym, refl, ap, ◌∙◌, ⊎_elim, arith}
-use Rattle.std.proofs.lemmas.List.{length-append, length-set, get_or-set_same, get_or-set_other}
+use Rattle.std.proofs.Common.{◌≡◌, ℕ, zero, suc, ◌+◌, ◌<◌, ◌≤◌, Bool, eqb, List, [], ◌++◌, length, get_or, set, sym, refl, ap, ◌∙◌, ⊎_elim, arith}
+use Rattle.std.proofs.lemmas.List.{append-nil, length-set, get_or-set_same, get_or-set_other}
 use Rattle.std.proofs.lemmas.Bool.{cases_eq, eq-eqb, ne_eqb, cond-true, cond-false}
 use Rattle.values.specs.Tables.{table}
 use Rattle.values.proofs.Tables.{is_table}
-use Rattle.telegrams.specs.Requests.{Asking}
+use Rattle.telegrams.specs.Requests.{Asking, Sent}
 use Rattle.stations.specs.Stations.{Place, vacant}
 use Rattle.lines.specs.Lines.{Meaning, at}
 use Rattle.records.specs.Rows.{Row, new_row, row_at}
@@ -14,26 +14,24 @@ use Rattle.master.specs.Cycles.{only}
 
 -- what is sent to one address is all that is sent
 module _ (f : ℕ → List Asking) (b : ℕ) (none : (a : ℕ) → (a ≡ b → ⊥) → f a ≡ []) where
-  before_it : (n : ℕ) → n ≤ b → length (sent_below n f) ≡ 0
+  before_it : (n : ℕ) → n ≤ b → sent_below n f ≡ []
   unfolding sent_below
   before_it zero h = refl
-  before_it (suc n) h =
-      let e : length (f n) ≡ 0 = ap length (none n (omega arith)) in
-      omega (arith, length-append (sent_below n f) (addressed n (f n)), addressed-length n (f n), before_it n (omega arith))
+  before_it (suc n) h = ap (λ (qs : List Sent). qs ++ addressed n (f n)) (before_it n (omega arith)) ∙ ap (addressed n) (none n (omega arith))
 
-  pub sent_there : (n : ℕ) → b < n → length (sent_below n f) ≡ length (f b)
+  pub sent_there : (n : ℕ) → b < n → sent_below n f ≡ addressed b (f b)
   unfolding sent_below
   sent_there zero h = absurd (omega arith)
-  sent_there (suc n) h =
-      length-append (sent_below n f) (addressed n (f n))
-      ∙ ap (λ (k : ℕ). length (sent_below n f) + k) (addressed-length n (f n))
-      ∙ ⊎_elim last (earlier (sent_there n)) (cases_eq n b)
+  sent_there (suc n) h = ⊎_elim last (earlier (sent_there n)) (cases_eq n b)
     where
-      last : n ≡ b → length (sent_below n f) + length (f n) ≡ length (f b)
-      last e = let same : length (f n) ≡ length (f b) = ap (λ (k : ℕ). length (f k)) e in omega (arith, before_it n (omega arith))
+      last : n ≡ b → sent_below n f ++ addressed n (f n) ≡ addressed b (f b)
+      last e = ap (λ (qs : List Sent). qs ++ addressed n (f n)) (before_it n (omega arith)) ∙ ap (λ (k : ℕ). addressed k (f k)) e
 
-      earlier : (b < n → length (sent_below n f) ≡ length (f b)) → (n ≡ b → ⊥) → length (sent_below n f) + length (f n) ≡ length (f b)
-      earlier rest ne = let e : length (f n) ≡ 0 = ap length (none n ne) in omega (arith, rest (omega arith))
+      earlier : (b < n → sent_below n f ≡ addressed b (f b)) → (n ≡ b → ⊥) → sent_below n f ++ addressed n (f n) ≡ addressed b (f b)
+      earlier rest ne =
+          ap (λ (qs : List Asking). sent_below n f ++ addressed n qs) (none n ne)
+          ∙ append-nil (sent_below n f)
+          ∙ rest (omega arith)
 
 module _ (b : ℕ) (v : Row → Place → Visit) (r : Row) (p : Place) where
   pub only_there : only b v b r p ≡ v r p
@@ -66,7 +64,7 @@ only_visited visit b rs rs' l l' n inside rows_32 places_32 visited =
       counted =
           visited.counted
           ∙ ap (λ (w : Visit). length w.sent) (sym here)
-          ∙ sym (sent_there (λ a. (made a).sent) b (λ k ne. ap (λ (w : Visit). w.sent) (alone k ne)) 32 inside);
+          ∙ sym (ap length (sent_there (λ a. (made a).sent) b (λ k ne. ap (λ (w : Visit). w.sent) (alone k ne)) 32 inside) ∙ addressed-length b (made b).sent);
     }
   where
     made : ℕ → Visit
@@ -80,3 +78,9 @@ only_visited visit b rs rs' l l' n inside rows_32 places_32 visited =
 
     alone : (k : ℕ) → (k ≡ b → ⊥) → made k ≡ left_alone (row_at k rs) (at l.places k)
     alone k ne = only_elsewhere b (visit l.power) (row_at k rs) (at l.places k) k ne
+
+-- of a visit to one address, what is sent to it
+pub only_sent : (visit : Row → Place → Visit) (b : ℕ) (rs : List Row) (ps : List Place) → b < 32 → sent_below 32 (λ a. (only b visit a (row_at a rs) (at ps a)).sent) ≡ addressed b (visit (row_at b rs) (at ps b)).sent
+only_sent visit b rs ps inside =
+    sent_there (λ a. (only b visit a (row_at a rs) (at ps a)).sent) b (λ k ne. ap (λ (w : Visit). w.sent) (only_elsewhere b visit (row_at k rs) (at ps k) k ne)) 32 inside
+    ∙ ap (λ (w : Visit). addressed b w.sent) (only_there b visit (row_at b rs) (at ps b))

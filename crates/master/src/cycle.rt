@@ -1,7 +1,8 @@
 ghost use Rattle.std.specs.Prelude.{◌≡◌, not, ◌||◌, if◌then◌else◌};
 ghost use Rattle.orders.specs.Queues.{Served};
 ghost use Rattle.lines.specs.Lines.{meaning};
-ghost use Rattle.master.specs.Cycles.{control_of, card_of, beginning, run, running, kept_offline, Became, Cycled};
+ghost use Rattle.lines.specs.Sending.{Sends};
+ghost use Rattle.master.specs.Cycles.{control_of, card_of, beginning, run, running, kept_offline, cycle, Became, Cycled};
 
 use super::master::{Master, Phase};
 use lines::line::Line;
@@ -58,6 +59,7 @@ impl Master {
     /// Data exchange, management and search; how many requests were sent.
     fn run_normal<L: Line>(&mut self, line: &mut L, queues: &mut Queues) -> u32
         ensures became { Became (run Phase.Normal (beginning (card_of self.old queues.old) (meaning (L.power line.old) (L.stations line.old)))) (card_of self.new queues.new) (meaning (L.power line.new) (L.stations line.new)) result }
+        ensures sends { Sends L.carried line.old (run Phase.Normal (beginning (card_of self.old queues.old) (meaning (L.power line.old) (L.stations line.old)))).sent line.new }
         ensures served { Served queues.old queues.new }
     {
         let mode = self.table.mode();
@@ -71,6 +73,7 @@ impl Master {
     /// Runs one phase; how many requests were sent.
     fn run<L: Line>(&mut self, phase: Phase, line: &mut L, queues: &mut Queues) -> u32
         ensures became { Became (run phase (beginning (card_of self.old queues.old) (meaning (L.power line.old) (L.stations line.old)))) (card_of self.new queues.new) (meaning (L.power line.new) (L.stations line.new)) result }
+        ensures sends { Sends L.carried line.old (run phase (beginning (card_of self.old queues.old) (meaning (L.power line.old) (L.stations line.old)))).sent line.new }
         ensures served { Served queues.old queues.new }
     {
         match phase {
@@ -94,6 +97,7 @@ impl Master {
     /// One cycle on a line: it runs in the offline phase where that is requested or power is down, else in the phase that is next.
     pub fn cycle<L: Line>(&mut self, line: &mut L, queues: &mut Queues) -> Report
         ensures cycled { Cycled (card_of self.old queues.old) (meaning (L.power line.old) (L.stations line.old)) result.phase result.requests (card_of self.new queues.new) (meaning (L.power line.new) (L.stations line.new)) }
+        ensures sends { Sends L.carried line.old (cycle (card_of self.old queues.old) (meaning (L.power line.old) (L.stations line.old))).sent line.new }
         ensures served { Served queues.old queues.new }
     {
         let phase = self.phase_with(line.is_powered());

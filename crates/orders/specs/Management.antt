@@ -3,13 +3,13 @@
 -- value. What is sent and heard is that of a line's one station, so that the same rule holds on every kind of line.
 -- A reader compares it with docs/CYCLE.md.
 use Rattle.std.specs.Prelude.{◌≡◌, ℕ, Bool, cond, List, [], ◌∷◌, ◌++◌, length, Some, None, Option, nat_lt}
-use Rattle.telegrams.specs.Requests.{Asking, Heard, nibble, silence, disturbed, data_exchange, write_parameter, read_io, read_id, resetting}
+use Rattle.telegrams.specs.Requests.{Sent, Asking, Heard, nibble, silence, disturbed, data_exchange, write_parameter, read_io, read_id, resetting}
 use Rattle.stations.specs.Stations.{Place, after, reply}
 use Rattle.lines.specs.Lines.{Meaning, at}
 use Rattle.queues.specs.Fifo.{held, room, oldest_of, take_after}
 use Rattle.records.specs.Rows.{Row, row_at}
 use Rattle.phases.specs.Activation.{with_pi}
-use Rattle.phases.specs.Visits.{Visit, left_alone, Visited}
+use Rattle.phases.specs.Visits.{Visit, left_alone, Visited, addressed}
 use Rattle.orders.specs.Orders.{ordered, Ending, replied, inactive}
 use Rattle.orders.specs.Queues.{uncollected}
 use Rattle.orders.specs.declared.order.Order.{Order}
@@ -38,6 +38,12 @@ manage_ending power q r p = cond r.active (replied (reply power p q)) inactive
 -- the order that is taken: the oldest, where its answer has room
 abbrev pub next_order : Queues → Option Order
 next_order q = cond (nat_lt (length (held q.answers)) (room q.answers)) (oldest_of (held q.orders)) None
+
+-- what is sent for it, if any
+abbrev pub sent_for : Bool → Option Order → List Row → List Place → List Sent
+sent_for power None rs ps = []
+sent_for power (Some o) rs ps =
+    addressed (ordered o).to (manage_visit power (ordered o).asking (row_at (ordered o).to rs) (at ps (ordered o).to)).sent
 
 -- management took this order, if any: queues, rows and line before and afterwards, and how many requests were sent
 abbrev pub Managed : Option Order → Queues → Queues → List Row → List Row → Meaning → Meaning → ℕ → Type 0

@@ -1,11 +1,12 @@
 ghost use Rattle.std.specs.Prelude.{◌≡◌, ◌≤◌, slice_set};
 ghost use Rattle.values.specs.Tables.{table};
 ghost use Rattle.lines.specs.Lines.{meaning, at};
+ghost use Rattle.lines.specs.Sending.{Sends};
 ghost use Rattle.records.specs.Rows.{row_at};
 ghost use Rattle.records.specs.Records.{rows};
-ghost use Rattle.phases.specs.Visits.{Visited};
+ghost use Rattle.phases.specs.Visits.{Visited, addressed};
 ghost use Rattle.orders.specs.Orders.{ordered, ending, requests_of};
-ghost use Rattle.orders.specs.Management.{taken, manage_visit, manage_ending, next_order, Managed};
+ghost use Rattle.orders.specs.Management.{taken, manage_visit, manage_ending, next_order, sent_for, Managed};
 ghost use Rattle.orders.specs.Queues.{Served};
 
 use super::order::{Answer, Order, Unanswered};
@@ -35,6 +36,7 @@ pub fn carry_out<L: Line>(
     order: Order,
 ) -> Result<Nibble, Unanswered>
     ensures ends { ending result ≡ manage_ending (L.power line.old) (ordered order).asking (row_at (ordered order).to (rows target.old)) (at (table (L.stations line.old)) (ordered order).to) }
+    ensures sends { Sends L.carried line.old (addressed (ordered order).to (manage_visit (L.power line.old) (ordered order).asking (row_at (ordered order).to (rows target.old)) (at (table (L.stations line.old)) (ordered order).to)).sent) line.new }
     ensures visited { Visited (λ power. manage_visit power (ordered order).asking) (ordered order).to (rows target.old) (rows target.new) (meaning (L.power line.old) (L.stations line.old)) (meaning (L.power line.new) (L.stations line.new)) (requests_of (ending result)) }
 {
     if !target.is_active(order.address()) {
@@ -53,6 +55,7 @@ pub fn carry_out<L: Line>(
 /// Carries out the next order, if any, and puts its answer; how many requests were sent.
 pub fn manage<L: Line>(target: &mut Rows, line: &mut L, queues: &mut Queues) -> u32
     ensures few { result ≤ 1 }
+    ensures sends { Sends L.carried line.old (sent_for (L.power line.old) (next_order queues.old) (rows target.old) (table (L.stations line.old))) line.new }
     ensures managed { Managed (next_order queues.old) queues.old queues.new (rows target.old) (rows target.new) (meaning (L.power line.old) (L.stations line.old)) (meaning (L.power line.new) (L.stations line.new)) result }
     ensures served { Served queues.old queues.new }
 {

@@ -1,8 +1,10 @@
 ghost use Rattle.std.specs.Prelude.{◌≡◌, ◌≤◌};
-ghost use Rattle.lines.specs.Lines.{meaning};
+ghost use Rattle.values.specs.Tables.{table};
+ghost use Rattle.lines.specs.Lines.{meaning, at};
+ghost use Rattle.lines.specs.Sending.{Sends};
 ghost use Rattle.records.specs.Rows.{row_at};
 ghost use Rattle.records.specs.Records.{rows};
-ghost use Rattle.phases.specs.Visits.{Visited, AllVisited};
+ghost use Rattle.phases.specs.Visits.{Visited, addressed, sent_below, AllVisited};
 ghost use Rattle.phases.specs.Activation.{admissible, enter_visit, admit_visit, activate_visit};
 
 use super::visitor::{Visitor, visit_all};
@@ -27,6 +29,7 @@ pub fn is_admissible(mode: Mode, target: &Rows, address: Address) -> bool
 
 /// Sets PI to PP and sends it; where a nibble comes, the address joins LAS.
 pub fn enter<L: Line>(target: &mut Rows, line: &mut L, address: ModuleAddress)
+    ensures sends { Sends L.carried line.old (addressed address.value (enter_visit (L.power line.old) (row_at address.value (rows target.old)) (at (table (L.stations line.old)) address.value)).sent) line.new }
     ensures visited { Visited enter_visit address.value (rows target.old) (rows target.new) (meaning (L.power line.old) (L.stations line.old)) (meaning (L.power line.new) (L.stations line.new)) 1 }
 {
     let at = Address::from(address);
@@ -57,6 +60,7 @@ pub fn enter_admissible<L: Line>(
     address: Address,
 ) -> u32
     ensures few { result ≤ 1 }
+    ensures sends { Sends L.carried line.old (addressed address.value (admit_visit mode (L.power line.old) address.value (row_at address.value (rows target.old)) (at (table (L.stations line.old)) address.value)).sent) line.new }
     ensures visited { Visited (λ power. admit_visit mode power address.value) address.value (rows target.old) (rows target.new) (meaning (L.power line.old) (L.stations line.old)) (meaning (L.power line.new) (L.stations line.new)) result }
 {
     let Ok(to) = ModuleAddress::try_from(address) else {
@@ -89,6 +93,7 @@ impl Visitor for Activator {
 /// Enters every address that is detected and admissible, lowest first; how many requests were sent.
 pub fn activate<L: Line>(mode: Mode, target: &mut Rows, line: &mut L) -> u32
     ensures few { result ≤ 31 }
+    ensures sends { Sends L.carried line.old (sent_below 32 (λ a. (activate_visit mode (L.power line.old) a (row_at a (rows target.old)) (at (table (L.stations line.old)) a)).sent)) line.new }
     ensures visited { AllVisited (activate_visit mode) (rows target.old) (rows target.new) (meaning (L.power line.old) (L.stations line.old)) (meaning (L.power line.new) (L.stations line.new)) result }
 {
     visit_all(&Activator { mode }, target, line)

@@ -1,8 +1,10 @@
 ghost use Rattle.std.specs.Prelude.{◌≡◌, ◌≤◌, slice_set};
-ghost use Rattle.lines.specs.Lines.{meaning};
+ghost use Rattle.values.specs.Tables.{table};
+ghost use Rattle.lines.specs.Lines.{meaning, at};
+ghost use Rattle.lines.specs.Sending.{Sends};
 ghost use Rattle.records.specs.Rows.{row_at};
 ghost use Rattle.records.specs.Records.{rows};
-ghost use Rattle.phases.specs.Visits.{AllVisited};
+ghost use Rattle.phases.specs.Visits.{sent_below, AllVisited};
 ghost use Rattle.phases.specs.Exchange.{dropped, missed, exchange_visit};
 
 use super::visitor::{Visitor, visit_all};
@@ -79,6 +81,7 @@ impl Visitor for Exchanger {
 /// Data exchange with every active address, lowest first; how many requests were sent.
 pub fn exchange<L: Line>(target: &mut Rows, line: &mut L) -> u32
     ensures few { result ≤ 31 }
+    ensures sends { Sends L.carried line.old (sent_below 32 (λ a. (exchange_visit (L.power line.old) (row_at a (rows target.old)) (at (table (L.stations line.old)) a)).sent)) line.new }
     ensures visited { AllVisited (λ power a. exchange_visit power) (rows target.old) (rows target.new) (meaning (L.power line.old) (L.stations line.old)) (meaning (L.power line.new) (L.stations line.new)) result }
 {
     visit_all(&Exchanger, target, line)

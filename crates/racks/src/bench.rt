@@ -49,6 +49,8 @@ impl Line for BenchRack {
 
     ghost stations = { λ b. station_at b.stations };
 
+    ghost carried = { λ _ _ _. Unit {0} };
+
     fn is_powered(&self) -> bool
         ensures { result ≡ self.now.powered }
     {

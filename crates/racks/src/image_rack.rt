@@ -71,6 +71,8 @@ impl Line for ImageRack<'_> {
 
     ghost stations = { λ i. place_at i.words.now };
 
+    ghost carried = { λ _ _ _. Unit {0} };
+
     fn is_powered(&self) -> bool {
         self.words.get(STATIONS) == Some(&POWER_UP)
     }

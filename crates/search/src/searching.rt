@@ -2,12 +2,13 @@ ghost use Rattle.std.specs.Prelude.{◌≡◌, ◌≤◌, slice_set};
 ghost use Rattle.values.specs.Tables.{table};
 ghost use Rattle.telegrams.specs.Requests.{heard};
 ghost use Rattle.lines.specs.Lines.{meaning, at};
+ghost use Rattle.lines.specs.Sending.{Sends};
 ghost use Rattle.records.specs.Rows.{row_at};
 ghost use Rattle.records.specs.Records.{rows};
 ghost use Rattle.phases.specs.Exchange.{lost};
-ghost use Rattle.phases.specs.Visits.{Visited};
+ghost use Rattle.phases.specs.Visits.{Visited, addressed};
 ghost use Rattle.search.specs.Steps.{seek, name, stage};
-ghost use Rattle.search.specs.Searches.{seek_visit, naming_visit, deciding, Searched};
+ghost use Rattle.search.specs.Searches.{seek_visit, naming_visit, deciding, search_sent, Searched};
 
 use super::step::{Step, pick};
 use lines::line::Line;
@@ -32,6 +33,7 @@ fn lose(target: &mut Rows, address: Address)
 /// Reads the I/O code at an address.
 fn seek_at<L: Line>(target: &mut Rows, line: &mut L, address: Address) -> Reply
     ensures reply { heard result ≡ deciding (L.power line.old) (seek address.value) (at (table (L.stations line.old)) address.value) }
+    ensures sends { Sends L.carried line.old (addressed address.value (seek_visit (L.power line.old) (row_at address.value (rows target.old)) (at (table (L.stations line.old)) address.value)).sent) line.new }
     ensures visited { Visited seek_visit address.value (rows target.old) (rows target.new) (meaning (L.power line.old) (L.stations line.old)) (meaning (L.power line.new) (L.stations line.new)) 1 }
 {
     let reply = line.carry(Request::ReadIo(address));
@@ -46,6 +48,7 @@ fn seek_at<L: Line>(target: &mut Rows, line: &mut L, address: Address) -> Reply
 /// Reads the ID code at an address that gave its I/O code.
 fn name_at<L: Line>(target: &mut Rows, line: &mut L, address: Address, io: Nibble) -> Reply
     ensures reply { heard result ≡ deciding (L.power line.old) (name address.value io.value) (at (table (L.stations line.old)) address.value) }
+    ensures sends { Sends L.carried line.old (addressed address.value (naming_visit (L.power line.old) io.value (row_at address.value (rows target.old)) (at (table (L.stations line.old)) address.value)).sent) line.new }
     ensures visited { Visited (λ power. naming_visit power io.value) address.value (rows target.old) (rows target.new) (meaning (L.power line.old) (L.stations line.old)) (meaning (L.power line.new) (L.stations line.new)) 1 }
 {
     let reply = line.carry(Request::ReadId(address));
@@ -59,6 +62,7 @@ fn name_at<L: Line>(target: &mut Rows, line: &mut L, address: Address, io: Nibbl
 /// One step of the search: the next step, and how many requests were sent.
 pub fn search<L: Line>(mode: Mode, target: &mut Rows, line: &mut L, step: Step) -> (Step, u32)
     ensures few { result.1 ≤ 1 }
+    ensures sends { Sends L.carried line.old (search_sent mode (L.power line.old) (stage step) (rows target.old) (table (L.stations line.old))) line.new }
     ensures searched { Searched mode (stage step) (stage result.0) (rows target.old) (rows target.new) (meaning (L.power line.old) (L.stations line.old)) (meaning (L.power line.new) (L.stations line.new)) result.1 }
 {
     let (at, reply, sent) = match step {

@@ -27,3 +27,11 @@ returns-clause-searched g c =
           rw (w.reply-is, w.target-is, w.line-is, w.in-Enter.is) (record { taken = refl; decides = refl; visited = enter.visited })
     ] in
     searched c.args.mode _ _ _ _ _ _ _ _ _ stepped (omega (arith, rows_sized before)) (cc)
+
+pub returns-clause-sends : goal.returns-clause-sends
+returns-clause-sends g c =
+    elim c.match-step.branch [
+      | in-Seek w ↦ rw (w.line-is, w.in-Seek.is, ← w.pick-at.ensures.is) w.seek_at.ensures.sends
+      | in-Name w ↦ rw (w.line-is, w.in-Name.is) w.name_at.ensures.sends
+      | in-Enter w ↦ rw (w.line-is, w.in-Enter.is) w.enter_admissible.ensures.sends
+    ]

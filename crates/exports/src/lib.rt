@@ -2,7 +2,7 @@
 #![tactic(auto)]
 
 pub mod cycles;
-pub mod logged;
+mod logged;
 pub mod replay;
-pub mod script;
+mod script;
 pub mod words;

@@ -7,7 +7,7 @@ use runs::call::{Given, Outcome};
 use values::address::Address;
 
 /// How many words are logged for one call.
-pub const LOG_WORDS: usize = 111;
+pub(crate) const LOG_WORDS: usize = 111;
 
 /// Where the rows begin, two words for each address, and where the image begins.
 const ROWS: usize = 14;
@@ -64,7 +64,7 @@ fn answer_words(answer: Answer) -> [u32; 7] {
 }
 
 /// What a call came to.
-pub fn outcome_words(outcome: Outcome) -> [u32; 7] {
+pub(crate) fn outcome_words(outcome: Outcome) -> [u32; 7] {
     match outcome {
         Ok(Given::Nothing) => [0; 7],
         Ok(Given::Ran(report)) => {
@@ -103,7 +103,7 @@ fn row_word(rows: &Rows, address: Address) -> u32 {
 }
 
 /// Word `k` of what is logged for a call.
-pub fn logged_word(
+pub(crate) fn logged_word(
     k: usize,
     came: &[u32; 7],
     master: &Master,

@@ -1,4 +1,5 @@
-ghost use Rattle.std.specs.Prelude.{◌≤◌};
+ghost use Rattle.std.specs.Prelude.{◌≡◌, ◌/◌, ◌≤◌, false, length};
+ghost use Rattle.stations.specs.Images.{good_image};
 
 use super::logged::{LOG_WORDS, logged_word, outcome_words};
 use super::script::{CALL_WORDS, EDITS, Entry};
@@ -120,7 +121,10 @@ pub extern "C" fn asi_replay(
     words: &mut [u32],
     script: &[u32],
     log: &mut [u32],
-) -> usize {
+) -> usize
+    ensures refused { good_image words.old ≡ false → (result ≡ 0) × (words.new ≡ words.old) × (log.new ≡ log.old) }
+    ensures made { result ≤ length log.old / 111 }
+{
     let order = Order::Reset(ModuleAddress::nth(0));
     let answer = Answer {
         order,

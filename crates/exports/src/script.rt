@@ -3,26 +3,26 @@ use records::record::Mode;
 use runs::call::Call;
 
 /// How many words of a script say one call.
-pub const CALL_WORDS: usize = 8;
+pub(crate) const CALL_WORDS: usize = 8;
 
 /// How many edits a projection has at most.
-pub const EDITS: usize = 4;
+pub(crate) const EDITS: usize = 4;
 
 /// One call of a script.
 #[derive(Clone, Copy)]
-pub struct Entry {
+pub(crate) struct Entry {
     code: u32,
     a: u32,
     b: u32,
     c: u32,
     d: u32,
     /// Where the line is altered before the call, and to which word.
-    pub place: u32,
-    pub word: u32,
+    pub(crate) place: u32,
+    pub(crate) word: u32,
 }
 
 impl Entry {
-    pub fn from_words(words: &[u32; CALL_WORDS]) -> Entry {
+    pub(crate) fn from_words(words: &[u32; CALL_WORDS]) -> Entry {
         let [code, a, b, c, d, place, word, _] = *words;
         Entry {
             code,
@@ -35,7 +35,7 @@ impl Entry {
         }
     }
 
-    pub fn edit(&self) -> Option<Edit> {
+    pub(crate) fn edit(&self) -> Option<Edit> {
         match self.code {
             9 => Some(Edit::Project {
                 address: self.a,
@@ -50,7 +50,7 @@ impl Entry {
     }
 
     /// The call; one that opens a projection makes these edits through it.
-    pub fn call<'a>(&self, edits: &'a [Edit]) -> Call<'a> {
+    pub(crate) fn call<'a>(&self, edits: &'a [Edit]) -> Call<'a> {
         let address = self.a;
         if let Some(edit) = self.edit() {
             return Call::Edit(edit);
@@ -77,7 +77,7 @@ impl Entry {
     }
 
     /// Whether the call opens a projection.
-    pub fn projects(&self) -> bool {
+    pub(crate) fn projects(&self) -> bool {
         self.code > 11
     }
 }

@@ -1,0 +1,28 @@
+use Rattle.std.proofs.Common.{◌≡◌, ℕ, ◌%◌, ap, sym, ◌∙◌, arith}
+use Rattle.std.proofs.lemmas.Bool.{cond-true}
+use Rattle.stations.specs.Images.{good_image, powered_in, place_at}
+use Rattle.lines.specs.Lines.{Meaning, meaning}
+use Rattle.racks.specs.Racks.{station_at}
+use Rattle.master.specs.Cycles.{card_of, new_card}
+use Rattle.exports.specs.Counting.{requests_in}
+use Rattle.exports.proofs.Counting.{count_starts, counts_on, new_empty, same_meaning}
+use Rattle.exports.proofs.cycles.asi_cycles.Goals as goal
+
+pub loop-done-init : goal.loop-done-init
+loop-done-init c =
+    let opened = c.in-Ok.ensures in
+    let q = c.over-queues.ensures in
+    count_starts _ _ _ _
+    (new_empty c.new-master.result c.over-queues.result c.new-master.ensures q.no_order q.no_answer q.order_slots q.answer_slots)
+    (same_meaning _ _ (station_at c.in-Ok.bench.stations) (place_at c.args.words.now) opened.1 opened.2)
+
+pub loop-done-preserved : goal.loop-done-preserved
+loop-done-preserved c = counts_on _ _ c.loop-done._done _ _ _ _ _ c.loop-done.sent c.cycle-report.result.requests c.loop-done.invariant c.cycle-report.ensures.cycled
+
+pub returns : goal.returns
+returns c =
+    let all : c.loop-done._done ≡ c.args.cycles = omega (arith, c.loop-done-test.false, c.loop-done.auto._done-end) in
+    let l : Meaning = meaning (powered_in c.args.words.now) (place_at c.args.words.now) in
+    c.loop-done.invariant.count
+    ∙ ap (λ (n : ℕ). requests_in n (new_card 0 0) l % 4294967296) all
+    ∙ sym (cond-true (good_image c.args.words.now) (requests_in c.args.cycles (new_card 0 0) l % 4294967296) 0x8313 c.in-Ok.ensures.0)

@@ -5,7 +5,7 @@ use std::fmt;
 use crate::linked;
 use crate::model;
 use crate::model::image::{POWER, POWER_DOWN, POWER_UP, WORDS};
-use crate::model::replay::{CALL_WORDS, ENTRY_WORDS, MOST_EDITS};
+use crate::model::replay::{Setting, CALL_WORDS, ENTRY_WORDS, MOST_EDITS};
 use crate::random::{Random, WILD};
 use crate::script::code;
 use crate::successions::Succession;
@@ -169,19 +169,12 @@ pub struct Replayed {
     pub log: Vec<u32>,
 }
 
-type Replay = fn(u32, u32, u32, &mut [u32], &[u32], &mut [u32]) -> usize;
+type Replay = fn(Setting, &mut [u32], &[u32], &mut [u32]) -> usize;
 
 pub fn replayed(replay: Replay, succession: &Succession) -> Replayed {
     let mut words = succession.words.clone();
     let mut log = vec![UNTOUCHED; succession.log_words];
-    let calls = replay(
-        succession.line,
-        succession.order_room,
-        succession.answer_room,
-        &mut words,
-        &succession.script,
-        &mut log,
-    );
+    let calls = replay(succession.setting, &mut words, &succession.script, &mut log);
     Replayed { calls, words, log }
 }
 
@@ -231,9 +224,9 @@ fn first_difference(succession: &Succession, linked: &Replayed, own: &Replayed) 
 fn parameters(succession: &Succession) -> String {
     format!(
         "line {}, order room {}, answer room {}, script of {} words, log of {} words\nimage {}\n",
-        succession.line,
-        succession.order_room,
-        succession.answer_room,
+        succession.setting.line,
+        succession.setting.order_room,
+        succession.setting.answer_room,
         succession.script.len(),
         succession.log_words,
         words_as_text(&succession.words)

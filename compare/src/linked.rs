@@ -11,6 +11,8 @@ pub use stand_in::*;
 
 #[cfg(not(standalone))]
 mod library {
+    use crate::model::replay::Setting;
+
     mod exports {
         // A slice goes over as its pointer and its length.
         unsafe extern "C" {
@@ -49,21 +51,14 @@ mod library {
         exports::asi_decode_reply(word)
     }
 
-    pub fn replay(
-        line: u32,
-        order_room: u32,
-        answer_room: u32,
-        words: &mut [u32],
-        script: &[u32],
-        log: &mut [u32],
-    ) -> usize {
+    pub fn replay(setting: Setting, words: &mut [u32], script: &[u32], log: &mut [u32]) -> usize {
         // SAFETY: each pointer and length are those of one slice, which is
         // lent for the call: words and log to be written, script to be read.
         unsafe {
             exports::asi_replay(
-                line,
-                order_room,
-                answer_room,
+                setting.line,
+                setting.order_room,
+                setting.answer_room,
                 words.as_mut_ptr(),
                 words.len(),
                 script.as_ptr(),

@@ -1,15 +1,13 @@
 //! Random successions: what one replay is given, and the images in it.
 
 use crate::model::image::{Image, POWER, POWER_DOWN, POWER_UP};
-use crate::model::replay::{CALL_WORDS, ENTRY_WORDS};
+use crate::model::replay::{Setting, CALL_WORDS, ENTRY_WORDS};
 use crate::random::{Random, WILD};
 use crate::script::Script;
 
 /// What one call of `asi_replay` is given.
 pub struct Succession {
-    pub line: u32,
-    pub order_room: u32,
-    pub answer_room: u32,
+    pub setting: Setting,
     pub words: Vec<u32>,
     pub script: Vec<u32>,
     pub log_words: usize,
@@ -21,16 +19,16 @@ impl Succession {
     /// The succession of a seed with that index. Each can be made alone.
     pub fn random(seed: u64, index: u64) -> Succession {
         let mut random = Random::new(seed, index);
-        let line = random_line(&mut random);
-        let order_room = random_room(&mut random);
-        let answer_room = random_room(&mut random);
+        let setting = Setting {
+            line: random_line(&mut random),
+            order_room: random_room(&mut random),
+            answer_room: random_room(&mut random),
+        };
         let image = random_image(&mut random);
         let script = Script::random(&mut random, image);
         let entries = script.len() / ENTRY_WORDS;
         Succession {
-            line,
-            order_room,
-            answer_room,
+            setting,
             words: maybe_damaged(&mut random, image),
             script,
             log_words: random_log_words(&mut random, entries),

@@ -15,17 +15,18 @@ pub const CALL_WORDS: usize = 111;
 pub const MOST_EDITS: usize = 4;
 const MOST_ROOM: u32 = 8;
 
+/// The line by its number, and how many places the queues are given.
+#[derive(Clone, Copy)]
+pub struct Setting {
+    pub line: u32,
+    pub order_room: u32,
+    pub answer_room: u32,
+}
+
 /// Replays a script; gives how many calls were made.
-pub fn replay(
-    line: u32,
-    order_room: u32,
-    answer_room: u32,
-    words: &mut [u32],
-    script: &[u32],
-    log: &mut [u32],
-) -> usize {
-    let master = Master::new(room(order_room), room(answer_room));
-    let run = match line {
+pub fn replay(setting: Setting, words: &mut [u32], script: &[u32], log: &mut [u32]) -> usize {
+    let master = Master::new(room(setting.order_room), room(setting.answer_room));
+    let run = match setting.line {
         0 => run::<Bench>,
         1 => run::<Repeater<Bench>>,
         2 => run::<Repeater<Repeater<Bench>>>,
@@ -262,6 +263,14 @@ fn values_word(row: &Row) -> u32 {
 mod tests {
     use super::*;
 
+    fn setting(line: u32, room: u32) -> Setting {
+        Setting {
+            line,
+            order_room: room,
+            answer_room: room,
+        }
+    }
+
     const MODULE: u32 = 0x4709_FF00;
     const NO_PLACE: u32 = 33;
     const UNTOUCHED: u32 = 77;
@@ -280,7 +289,7 @@ mod tests {
     fn replay_all(line: u32, words: &mut [u32], script: &[[u32; 8]]) -> Vec<Vec<u32>> {
         let script = script.concat();
         let mut log = vec![UNTOUCHED; 111 * 40];
-        let calls = replay(line, 8, 8, words, &script, &mut log);
+        let calls = replay(setting(line, 8), words, &script, &mut log);
         assert!(log[111 * calls..].iter().all(|word| *word == UNTOUCHED));
         let parts = log.chunks_exact(111).take(calls);
         parts.map(<[u32]>::to_vec).collect()
@@ -355,16 +364,25 @@ mod tests {
         let script = [[6, 0, 0, 0, 0, 3, MODULE, 0]; 3].concat();
         let mut log = vec![UNTOUCHED; 221];
         let mut words = image_with(4, MODULE);
-        assert_eq!(replay(0, 0, 0, &mut words, &script, &mut log), 1);
+        assert_eq!(replay(setting(0, 0), &mut words, &script, &mut log), 1);
         assert_eq!(words[3], MODULE);
         assert!(log[111..].iter().all(|word| *word == UNTOUCHED));
         let mut words = image_with(4, MODULE);
-        assert_eq!(replay(0, 0, 0, &mut words, &script, &mut log[..110]), 0);
+        assert_eq!(
+            replay(setting(0, 0), &mut words, &script, &mut log[..110]),
+            0
+        );
         assert_eq!(words, image_with(4, MODULE));
-        assert_eq!(replay(0, 0, 0, &mut words, &script[..15], &mut log), 1);
-        assert_eq!(replay(0, 0, 0, &mut words[..32], &script, &mut log), 0);
+        assert_eq!(
+            replay(setting(0, 0), &mut words, &script[..15], &mut log),
+            1
+        );
+        assert_eq!(
+            replay(setting(0, 0), &mut words[..32], &script, &mut log),
+            0
+        );
         words[5] = 1;
-        assert_eq!(replay(0, 0, 0, &mut words, &script, &mut log), 0);
+        assert_eq!(replay(setting(0, 0), &mut words, &script, &mut log), 0);
     }
 
     #[test]

@@ -1,9 +1,11 @@
 -- A run: a script of calls on a new master with two new queues, on a line that the plant may alter before each call.
 -- What each call comes to is what the rules say of it. What the plant does is its own affair: the run says that it acted once before each call,
--- and that the call met the line as the plant left it. A run that skips the plant, or does not look at the line, cannot be shown.
-use Rattle.std.specs.Prelude.{◌≡◌, ℕ, ◌+◌, Bool, cond, List, [], ◌∷◌, map, length, Ok, Err, Result}
+-- that the call met the line as the plant left it, and that the line then carried the requests that the rules list and no other. A run that
+-- skips the plant, does not look at the line or sends a request beside them cannot be shown.
+use Rattle.std.specs.Prelude.{◌≡◌, ℕ, ◌+◌, Bool, cond, List, [], ◌∷◌, ◌++◌, map, length, Ok, Err, Result}
 use Rattle.values.specs.Refusals.{Outcome, gives, refuses_for, numbered, caused, accepts}
 use Rattle.values.specs.Tables.{table}
+use Rattle.telegrams.specs.Requests.{Sent}
 use Rattle.lists.specs.Members.{has}
 use Rattle.records.specs.Edits.{Edit as Change, change_of, edit_outcome}
 use Rattle.records.specs.Modes.{in_configuration, mode_outcome}
@@ -13,6 +15,7 @@ use Rattle.records.specs.declared.record.Mode.TheVariants.{Configuration}
 use Rattle.queues.specs.Fifo.{take_outcome}
 use Rattle.orders.specs.Orders.{Told, told}
 use Rattle.lines.specs.Lines.{Meaning}
+use Rattle.lines.specs.Sending.{Sends}
 use Rattle.master.specs.Cycles.{Control, Card, new_card, running, cycle}
 use Rattle.master.specs.Placing.{is_normal}
 use Rattle.master.specs.declared.master.Listing.{Listing}
@@ -142,22 +145,37 @@ abbrev pub line_left : Meaning → Turn → Card → Meaning
 line_left line (cycling met) c = (cycle c met).line
 line_left line (calling k) c = line
 
+-- the requests that a call sends: only a cycle sends any
+abbrev pub sent_by : Turn → Card → List Sent
+sent_by (cycling met) c = (cycle c met).sent
+sent_by (calling k) c = []
+
 -- a call that met card c and the line came to this, and left card and line so
 pub record Performed (x : Call) (line : Meaning) (c : Card) (y : Came) (line' : Meaning) (c' : Card) : Type 0 where
   pub came_to : y ≡ comes_to (turn_of line x) c
   pub line_is : line' ≡ line_left line (turn_of line x) c
   pub card_is : c' ≡ turned (turn_of line x) c
 
--- A script that was run: before each call the plant alters the line, the call meets it so and leaves it as the rules say
-module _ {P : Type 0} (alters : P → Meaning → Meaning → P → Type 0) where
-  pub data Ran : List Call → List Turn → List Came → P → Meaning → Card → P → Meaning → Card → Type 0 where
-    nothing : {h : P} {w : Meaning} {c : Card} → Ran [] [] [] h w c h w c
-    one : {x : Call} {xs : List Call} {ts : List Turn} {ys : List Came} {h k h' : P} {w v w' : Meaning} {c c' : Card} → alters h w v k → Ran xs ts ys k (line_left v (turn_of v x) c) (turned (turn_of v x) c) h' w' c' → Ran (x ∷ xs) (turn_of v x ∷ ts) (comes_to (turn_of v x) c ∷ ys) h w c h' w' c'
+-- A script that was run: before each call the plant alters the line; the call meets it so, the line carries what the call sends, and is left as
+-- the rules say. What is seen of a line is whether its power is up and what stands at its stations.
+module _ {L P : Type 0} (seen : L → Meaning) (carried : L → Sent → L → Type 0) (alters : P → L → L → P → Type 0) where
+  -- a call, with what is seen of the line that it met
+  abbrev pub turn : L → Call → Turn
+  turn v x = turn_of (seen v) x
+
+  pub data Ran : List Call → List Turn → List Came → P → L → Card → P → L → Card → Type 0 where
+    nothing : {h : P} {w : L} {c : Card} → Ran [] [] [] h w c h w c
+    one : {x : Call} {xs : List Call} {ts : List Turn} {ys : List Came} {h k h' : P} {w v u w' : L} {c c' : Card} → alters h w v k → Sends carried v (sent_by (turn v x) c) u → seen u ≡ line_left (seen v) (turn v x) c → Ran xs ts ys k u (turned (turn v x) c) h' w' c' → Ran (x ∷ xs) (turn v x ∷ ts) (comes_to (turn v x) c ∷ ys) h w c h' w' c'
 
 -- what the calls of a script come to where nothing alters the line between them
 abbrev pub undisturbed : List Call → Meaning → Card → List Came
 undisturbed [] w c = []
 undisturbed (x ∷ xs) w c = comes_to (turn_of w x) c ∷ undisturbed xs (line_left w (turn_of w x) c) (turned (turn_of w x) c)
+
+-- what they send
+abbrev pub sent_undisturbed : List Call → Meaning → Card → List Sent
+sent_undisturbed [] w c = []
+sent_undisturbed (x ∷ xs) w c = sent_by (turn_of w x) c ++ sent_undisturbed xs (line_left w (turn_of w x) c) (turned (turn_of w x) c)
 
 -- and how they leave it
 abbrev pub line_undisturbed : List Call → Meaning → Card → Meaning
@@ -166,8 +184,8 @@ line_undisturbed (x ∷ xs) w c = line_undisturbed xs (line_left w (turn_of w x)
 
 -- What a run of a script from new says: which succession it was, that the plant, the line and the card went through it call by call, and that
 -- the promise holds of that succession
-pub record Run {P : Type 0} (alters : P → Meaning → Meaning → P → Type 0) (order_room answer_room : ℕ) (script : List Call) (log : List Came) (h : P) (w : Meaning) (h' : P) (w' : Meaning) : Type 0 where
+pub record Run {L P : Type 0} (seen : L → Meaning) (carried : L → Sent → L → Type 0) (alters : P → L → L → P → Type 0) (order_room answer_room : ℕ) (script : List Call) (log : List Came) (h : P) (w : L) (h' : P) (w' : L) : Type 0 where
   pub succession : List Turn
   pub card : Card
-  pub ran : Ran alters script succession log h w (new_card order_room answer_room) h' w' card
+  pub ran : Ran seen carried alters script succession log h w (new_card order_room answer_room) h' w' card
   pub promise : Promise (new_card order_room answer_room) succession

@@ -21,7 +21,7 @@ pub fn run<L: Line, P: Plant<L>>(
     log: &mut [Outcome],
 ) -> usize
     ensures made { result ≡ min (length script.now) (length log.old) }
-    ensures ran { Run P.Plant.alters (length order_slots.old) (length answer_slots.old) (take result script.now) (map came (take result log.new)) plant.old (meaning (L.Line.power line.old) (L.Line.stations line.old)) plant.new (meaning (L.Line.power line.new) (L.Line.stations line.new)) }
+    ensures ran { Run (λ l. meaning (L.Line.power l) (L.Line.stations l)) L.Line.carried P.Plant.alters (length order_slots.old) (length answer_slots.old) (take result script.now) (map came (take result log.new)) plant.old line.old plant.new line.new }
     ensures rest { drop result log.new ≡ drop result log.old }
 {
     let mut master = Master::new();

@@ -32,11 +32,11 @@ abbrev pub rack_line : BenchRack → Meaning
 rack_line r = meaning r.powered (station_at r.stations)
 
 -- what the next call meets, where n were made: the former module comes when the search is at b, and plugging is one call later
-abbrev pub met_after : ℕ → Plugging → Meaning → Meaning
-met_after n h line = cond (n == 3 + b) (rack_line h.former) (cond (n == 3 + b + 1) (rack_line h.full) line)
+abbrev pub met_after : ℕ → Plugging → BenchRack → BenchRack
+met_after n h line = cond (n == 3 + b) h.former (cond (n == 3 + b + 1) h.full line)
 
 -- a rack that has not come stays as it is
-pub record Plugs (h : Plugging) (w v : Meaning) (k : Plugging) : Type 0 where
+pub record Plugs (h : Plugging) (w v : BenchRack) (k : Plugging) : Type 0 where
   pub line_met : v ≡ met_after h.calls h w
   pub former_kept : h.calls < 3 + b → k.former ≡ h.former
   pub full_kept : h.calls < 3 + b + 1 → k.full ≡ h.full

@@ -1,8 +1,9 @@
-use Rattle.std.proofs.Common.{◌≡◌, ℕ, List, map, take, sym, ap, ◌∙◌, arith}
+use Rattle.std.proofs.Common.{◌≡◌, ℕ, List, map, take, sym, ap, ◌∙◌, subst, arith}
 use Rattle.std.proofs.lemmas.List.{take_all}
 use Rattle.lines.specs.Lines.{Meaning, meaning}
+use Rattle.lines.specs.Sending.{Sends}
 use Rattle.master.specs.Cycles.{new_card}
-use Rattle.runs.specs.Runs.{came, undisturbed, line_undisturbed}
+use Rattle.runs.specs.Runs.{came, undisturbed, sent_undisturbed, line_undisturbed}
 use Rattle.runs.specs.Runs.{Logged}
 use Rattle.runs.proofs.Idling.{idle_run}
 use Rattle.first_cycles.specs.Listed.{script}
@@ -14,10 +15,10 @@ returns g c =
     let log : List Logged = c.run.new.log in
     let n : ℕ = c.run.result in
     let made : n ≡ 8 = c.run.ensures.made in
-    let idle = idle_run c.run.ensures.ran.ran in
-    let told : map came (take n log) ≡ undisturbed (take n script) w (new_card 0 0) = idle.0 in
+    let idle = idle_run _ _ c.run.ensures.ran.ran in
     let all : take n log ≡ log = take_all n log (omega (arith, c.run.auto.log)) in
     record {
-      came_to = ap (map came) (sym all) ∙ told ∙ ap (λ (m : ℕ). undisturbed (take m script) w (new_card 0 0)) made;
-      left = idle.1 ∙ ap (λ (m : ℕ). line_undisturbed (take m script) w (new_card 0 0)) made;
+      came_to = ap (map came) (sym all) ∙ idle.came_to ∙ ap (λ (m : ℕ). undisturbed (take m script) w (new_card 0 0)) made;
+      sends = subst (λ (m : ℕ). Sends g.L.Line.carried c.args.line.now (sent_undisturbed (take m script) w (new_card 0 0)) c.run.new.line) made idle.sends;
+      left = idle.left ∙ ap (λ (m : ℕ). line_undisturbed (take m script) w (new_card 0 0)) made;
     }

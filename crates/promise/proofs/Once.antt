@@ -2,10 +2,9 @@
 -- in data exchange, at most one in management and at most one in the search.
 use Rattle.std.proofs.Common.{◌≡◌, ℕ, zero, suc, ◌+◌, ◌<◌, ◌≤◌, Bool, true, false, cond, eqb, ltb, List, [], ◌∷◌, ◌++◌, length, sym, refl, ap, ◌∙◌, subst, ⊎_elim, arith}
 use lib.ListN.{get_or-eq_default}
-use Rattle.std.specs.List.{AllByRecursion}
 use Rattle.std.proofs.lemmas.List.{append-nil, length-append}
 use Rattle.std.proofs.lemmas.Bool.{cases_eq, cases_lt, cond-true, cond-false, cond_both, eq-eqb, ne_eqb}
-use Rattle.telegrams.specs.Requests.{Asking, Sent, data_exchange}
+use Rattle.telegrams.specs.Requests.{Asking, Sent, data_exchange, write_parameter, read_io, read_id, resetting}
 use Rattle.stations.specs.Stations.{Place}
 use Rattle.lines.specs.Lines.{Meaning, at}
 use Rattle.records.specs.Rows.{Row, new_row, row_at}
@@ -21,8 +20,9 @@ use Rattle.master.specs.Cycles.{Card, Scene, new_card, beginning, everywhere, on
 use Rattle.promise.specs.Successions.{Turn, after}
 use Rattle.promise.specs.Waiting.{sent_to, exchanges}
 use Rattle.promise.specs.Once.{OnceEach}
+use Rattle.promise.proofs.Moments.{Orderable, Orderly}
 use Rattle.promise.proofs.Sending.{sent-to-append, sent_to_past, sent_to_below, exchanges-append}
-use Rattle.promise.proofs.Standing.{StandingRows, QuietOrder, Standing, stands}
+use Rattle.promise.proofs.Standing.{Standing, stands}
 
 -- How many requests are sent to the addresses below a number
 
@@ -74,10 +74,17 @@ record Quiet (visit : Row → Place → Visit) : Type 0 where
   silent : (r : Row) (p : Place) → exchanges (visit r p).sent ≡ []
   short : (r : Row) (p : Place) → length (visit r p).sent ≤ 1
 
-quiet_manage : (power : Bool) (o : Sent) → QuietOrder o → Quiet (manage_visit power o.asking)
-quiet_manage power o quiet =
+quiet_order : (q : Asking) → Orderable q → exchanges (q ∷ []) ≡ []
+quiet_order (data_exchange n) fit = absurd fit
+quiet_order (write_parameter n) fit = refl
+quiet_order read_io fit = absurd fit
+quiet_order read_id fit = absurd fit
+quiet_order resetting fit = refl
+
+quiet_manage : (power : Bool) (q : Asking) → Orderable q → Quiet (manage_visit power q)
+quiet_manage power q fit =
     record {
-      silent = λ r p. cond_both r.active _ (left_alone r p) (λ (v : Visit). exchanges v.sent ≡ []) (λ _. quiet) (λ _. refl);
+      silent = λ r p. cond_both r.active _ (left_alone r p) (λ (v : Visit). exchanges v.sent ≡ []) (λ _. quiet_order q fit) (λ _. refl);
       short = λ r p. cond_both r.active _ (left_alone r p) (λ (v : Visit). length v.sent ≤ 1) (λ _. omega arith) (λ _. omega arith);
     }
 
@@ -124,14 +131,14 @@ module _ (c : ℕ) (visit : Row → Place → Visit) (s : Scene) (quiet : Quiet 
             ∙ append-nil (exchanged_with b s.sent);
       }
 
-little_manage : (s : Scene) → AllByRecursion QuietOrder s.card.orders → Little s (manage s)
+little_manage : (s : Scene) → Orderly s.card.orders → Little s (manage s)
 unfolding manage
-little_manage s quiet = by s.card.orders quiet
+little_manage s fit = by s.card.orders fit
   where
-    by : (os : List Sent) → AllByRecursion QuietOrder os → Little s (manage_by os s)
+    by : (os : List Sent) → Orderly os → Little s (manage_by os s)
     by [] q = little_same s
     by (o ∷ rest) q =
-        let z = little_only o.to (manage_visit s.line.power o.asking) s (quiet_manage s.line.power o q.0) in
+        let z = little_only o.to (manage_visit s.line.power o.asking) s (quiet_manage s.line.power o.asking q.0) in
         elim (ltb (length s.card.answers) s.card.answer_room) as (λ t. Little s (cond t (carry_out o rest s) s))
         [ true ↦ record { few = z.few; none = z.none } | false ↦ little_same s ]
 
@@ -149,7 +156,7 @@ cond_under : {A B : Type 0} (t : Bool) (x y : A) (f : A → B) → f (cond t x y
 cond_under true x y f = refl
 cond_under false x y f = refl
 
-module _ (c : Card) (line : Meaning) (rows_stand : StandingRows c.control.rows) where
+module _ (c : Card) (line : Meaning) (stands : Standing c) where
   abbrev row : ℕ → Row
   row a = row_at a c.control.rows
 
@@ -161,7 +168,7 @@ module _ (c : Card) (line : Meaning) (rows_stand : StandingRows c.control.rows) 
 
   exchange_at_most : length (exchange (beginning c line)).sent ≤ 31
   unfolding everywhere
-  exchange_at_most = below_but_zero exchanged_at each (ap length (exchange_sends 0 ∙ cond-false _ _ _ rows_stand.zero_idle)) 31
+  exchange_at_most = below_but_zero exchanged_at each (ap length (exchange_sends 0 ∙ cond-false _ _ _ stands.zero_idle)) 31
     where
       each : (a : ℕ) → length (exchanged_at a) ≤ 1
       each a =
@@ -170,7 +177,7 @@ module _ (c : Card) (line : Meaning) (rows_stand : StandingRows c.control.rows) 
 
   -- no row stands beyond 31, so none is active there
   beyond_idle : (b : ℕ) → 32 ≤ b → row b ≡ new_row
-  beyond_idle b h = get_or-eq_default c.control.rows new_row (omega (arith, rows_stand.sized))
+  beyond_idle b h = get_or-eq_default c.control.rows new_row (omega (arith, stands.sized))
 
   exchange_once : (b : ℕ) → exchanged_with b (exchange (beginning c line)).sent ≡ cond (row b).active ((row b).odi ∷ []) []
   unfolding everywhere
@@ -182,13 +189,13 @@ once_normal : (c : Card) (line : Meaning) → Standing c → running c.control l
 unfolding cycle everywhere
 once_normal c line stands normal =
     let exchanged = exchange (beginning c line) in
-    let m = little_manage exchanged stands.asks in
+    let m = little_manage exchanged stands.orderly in
     let z = little_search (manage exchanged) in
     let is : cycle c line ≡ search_on (manage exchanged) = ap (λ p. run p (beginning c line)) normal in
     record {
-      exactly = λ b. ap (λ (s : Scene). exchanged_with b s.sent) is ∙ z.none b ∙ m.none b ∙ exchange_once c line stands.rows b;
+      exactly = λ b. ap (λ (s : Scene). exchanged_with b s.sent) is ∙ z.none b ∙ m.none b ∙ exchange_once c line stands b;
       at_most =
-          subst (λ (s : Scene). length s.sent ≤ 33) (sym is) (omega (arith, m.few, z.few, exchange_at_most c line stands.rows));
+          subst (λ (s : Scene). length s.sent ≤ 33) (sym is) (omega (arith, m.few, z.few, exchange_at_most c line stands));
     }
 
 pub exchanges_once : (order_room answer_room : ℕ) (p : List Turn) (line : Meaning) → running (after p (new_card order_room answer_room)).control line ≡ Normal → OnceEach (after p (new_card order_room answer_room)) line

@@ -39,43 +39,13 @@ pub record Sees (b : ℕ) (s : Scene) (m : Moment) : Type 0 where
 
 -- the visit was made
 abbrev pub visiting : Visit → Moment → Moment
-visiting v m =
-    record {
-      power = m.power;
-      offline = m.offline;
-      mode = m.mode;
-      phase = m.phase;
-      step = m.step;
-      row = v.row;
-      place = v.place;
-      sent = m.sent ++ v.sent;
-    }
+visiting v m = record m { row = v.row; place = v.place; sent = m.sent ++ v.sent }
 
 abbrev pub stepped : Stage → Moment → Moment
-stepped t m =
-    record {
-      power = m.power;
-      offline = m.offline;
-      mode = m.mode;
-      phase = m.phase;
-      step = t;
-      row = m.row;
-      place = m.place;
-      sent = m.sent;
-    }
+stepped t m = record m { step = t }
 
 abbrev pub entering : Phase → Moment → Moment
-entering p m =
-    record {
-      power = m.power;
-      offline = m.offline;
-      mode = m.mode;
-      phase = p;
-      step = m.step;
-      row = m.row;
-      place = m.place;
-      sent = m.sent;
-    }
+entering p m = record m { phase = p }
 
 -- The start of a cycle
 

@@ -34,17 +34,7 @@ use Rattle.promise.proofs.Keeps.{keeps_call}
 
 -- the same moment with another row and station, and with this sent there
 abbrev pub showing : Row → Place → List Asking → Moment → Moment
-showing r p qs m =
-    record {
-      power = m.power;
-      offline = m.offline;
-      mode = m.mode;
-      phase = m.phase;
-      step = m.step;
-      row = r;
-      place = p;
-      sent = qs;
-    }
+showing r p qs m = record m { row = r; place = p; sent = qs }
 
 pub record Shows (b : ℕ) (s : Scene) (m : Moment) : Type 0 where
   pub row : Row

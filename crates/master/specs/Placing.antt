@@ -38,7 +38,9 @@ Placed (gives q) o before after = after ≡ orders_after o q before
 
 -- a master placed what making an order came to: what it came to, and the queues before and afterwards
 pub record PlacedBy (m : Master) (q : Outcome Sent) (before : Queues) (r : Result (Unit {0}) Refusal) (after : Queues) : Type 0 where
-  pub came_to : outcome (λ u. u) r ≡ place_outcome m.phase (rows m.table.rows) (length (held before.orders)) (room before.orders) (length (held before.answers)) (room before.answers) q
+  pub came_to :
+      outcome (λ u. u) r
+      ≡ place_outcome m.phase (rows m.table.rows) (length (held before.orders)) (room before.orders) (length (held before.answers)) (room before.answers) q
   pub waits : Placed q (outcome (λ u. u) r) (waiting before) (waiting after)
   pub refused : UnchangedIfRefused r before after
   pub orders : OnlyPut before.orders after.orders

@@ -108,4 +108,5 @@ pub record InTurn (k n : ℕ) (o : Sent) (d : Numbered) : Type 0 where
 abbrev pub AnsweredInTurn : Card → List Turn → Placement → List Turn → Type 0
 AnsweredInTurn new p w q =
     (o : Sent) → order_from w ≡ gives o → accepts (placing_outcome (order_from w) (after p new)) ≡ true →
-    AllByRecursion (InTurn (length (after p new).orders) (length (accepted_by new p)) o) (numbered_cycles 0 (length (answered_by new p)) (called (placing w) (after p new)) q)
+    AllByRecursion (InTurn (length (after p new).orders) (length (accepted_by new p)) o)
+    (numbered_cycles 0 (length (answered_by new p)) (called (placing w) (after p new)) q)

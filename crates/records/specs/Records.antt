@@ -1,4 +1,5 @@
--- What the program's rows mean: bit a of each word of a list, and entry a, are the row of address a. Everything that the contracts say of rows is said through this one function.
+-- What the program's rows mean: bit a of each word of a list, and entry a, are the row of address a.
+-- Everything that the contracts say of rows is said through this one function.
 use Rattle.std.specs.Prelude.{ℕ, Bool, true, false, List, map, slice_index_or}
 use Rattle.values.specs.Tables.{table}
 use Rattle.lists.specs.Members.{has}

@@ -165,7 +165,10 @@ module _ {L P : Type 0} (seen : L → Meaning) (carried : L → Sent → L → T
 
   pub data Ran : List Call → List Turn → List Came → P → L → Card → P → L → Card → Type 0 where
     nothing : {h : P} {w : L} {c : Card} → Ran [] [] [] h w c h w c
-    one : {x : Call} {xs : List Call} {ts : List Turn} {ys : List Came} {h k h' : P} {w v u w' : L} {c c' : Card} → alters h w v k → Sends carried v (sent_by (turn v x) c) u → seen u ≡ line_left (seen v) (turn v x) c → Ran xs ts ys k u (turned (turn v x) c) h' w' c' → Ran (x ∷ xs) (turn v x ∷ ts) (comes_to (turn v x) c ∷ ys) h w c h' w' c'
+    one : {x : Call} {xs : List Call} {ts : List Turn} {ys : List Came} {h k h' : P} {w v u w' : L} {c c' : Card} →
+        alters h w v k → Sends carried v (sent_by (turn v x) c) u → seen u ≡ line_left (seen v) (turn v x) c →
+        Ran xs ts ys k u (turned (turn v x) c) h' w' c' →
+        Ran (x ∷ xs) (turn v x ∷ ts) (comes_to (turn v x) c ∷ ys) h w c h' w' c'
 
 -- what the calls of a script come to where nothing alters the line between them
 abbrev pub undisturbed : List Call → Meaning → Card → List Came
@@ -184,8 +187,11 @@ line_undisturbed (x ∷ xs) w c = line_undisturbed xs (line_left w (turn_of w x)
 
 -- What a run of a script from new says: which succession it was, that the plant, the line and the card went through it call by call, and that
 -- the promise holds of that succession
-pub record Run {L P : Type 0} (seen : L → Meaning) (carried : L → Sent → L → Type 0) (alters : P → L → L → P → Type 0) (order_room answer_room : ℕ) (script : List Call) (log : List Came) (h : P) (w : L) (h' : P) (w' : L) : Type 0 where
-  pub succession : List Turn
-  pub card : Card
-  pub ran : Ran seen carried alters script succession log h w (new_card order_room answer_room) h' w' card
-  pub promise : Promise (new_card order_room answer_room) succession
+pub record Run
+    {L P : Type 0} (seen : L → Meaning) (carried : L → Sent → L → Type 0) (alters : P → L → L → P → Type 0) (order_room answer_room : ℕ)
+    (script : List Call) (log : List Came) (h : P) (w : L) (h' : P) (w' : L) : Type 0
+  where
+    pub succession : List Turn
+    pub card : Card
+    pub ran : Ran seen carried alters script succession log h w (new_card order_room answer_room) h' w' card
+    pub promise : Promise (new_card order_room answer_room) succession

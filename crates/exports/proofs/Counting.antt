@@ -1,16 +1,15 @@
 -- Cycles one after another: how they leave card and line, and how many requests were counted.
-use Rattle.std.proofs.Common.{◌≡◌, ℕ, ◌+◌, ◌%◌, Bool, List, [], map, length, sym, refl, ap, ◌∙◌, add-one, arith}
+use Rattle.std.proofs.Common.{◌≡◌, ℕ, ◌+◌, ◌%◌, Bool, [], map, length, sym, refl, ap, ◌∙◌, add-one, arith}
 use Rattle.values.specs.Tables.{table}
-use Rattle.telegrams.specs.Requests.{Sent}
 use Rattle.stations.specs.Stations.{Place}
 use Rattle.lines.specs.Lines.{Meaning, meaning}
 use Rattle.queues.specs.Fifo.{held, room}
-use Rattle.orders.specs.Orders.{Told, ordered, told}
+use Rattle.orders.specs.Orders.{ordered, told}
 use Rattle.orders.specs.Queues.{waiting, uncollected}
 use Rattle.orders.specs.declared.pair.Queues.{Queues}
 use Rattle.master.specs.declared.master.Master.{Master}
 use Rattle.master.specs.declared.master.Phase.{Phase}
-use Rattle.master.specs.Cycles.{Control, Card, control_of, card_of, new_control, new_card, Cycled}
+use Rattle.master.specs.Cycles.{Card, control_of, card_of, new_control, new_card, Cycled}
 use Rattle.promise.specs.Successions.{Met}
 use Rattle.promise.specs.Waiting.{done}
 use Rattle.exports.specs.Counting.{met_after, requests_in}

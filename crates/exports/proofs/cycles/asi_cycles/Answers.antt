@@ -3,7 +3,7 @@ use Rattle.std.proofs.lemmas.Bool.{cond-true}
 use Rattle.stations.specs.Images.{good_image, powered_in, place_at}
 use Rattle.lines.specs.Lines.{Meaning, meaning}
 use Rattle.racks.specs.Racks.{station_at}
-use Rattle.master.specs.Cycles.{card_of, new_card}
+use Rattle.master.specs.Cycles.{new_card}
 use Rattle.exports.specs.Counting.{requests_in}
 use Rattle.exports.proofs.Counting.{count_starts, counts_on, new_empty, same_meaning}
 use Rattle.exports.proofs.cycles.asi_cycles.Goals as goal

@@ -1,7 +1,7 @@
 use Rattle.values.proofs.Tables.{length-table}
 use Rattle.records.specs.Records.{rows}
 use Rattle.search.proofs.Picking.{taken_inside}
-use Rattle.std.proofs.Common.{sym, subst, List, ◌++◌}
+use Rattle.std.proofs.Common.{sym, subst, List}
 use Rattle.telegrams.specs.Requests.{Sent}
 use Rattle.lines.specs.Sending.{Sends}
 use Rattle.lines.proofs.Sending.{sends_both}

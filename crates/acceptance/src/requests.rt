@@ -1,4 +1,7 @@
-//! The requests that a line is really given: contracts say what these do to it, and how many the rules send.
+//! A line that keeps the requests that it is given. Its relation `carried` says that one more was counted, and carried below: so what contracts say of
+//! requests is said of this count. The test looks into the table.
+ghost use Rattle.std.specs.Prelude.{◌≡◌, ◌+◌, ◌-◌, ◌^◌, min};
+
 use crate::script::*;
 use lines::line::Line;
 use master::master::{Master, Phase};
@@ -28,7 +31,7 @@ impl<L: Line> Line for Recorder<L> {
 
     ghost stations = { λ r. L.Line.stations r.below };
 
-    ghost carried = { λ _ _ _. Unit {0} };
+    ghost carried = { λ r q s. (s.count ≡ min (r.count + 1) (2 ^ 64 - 1)) × L.Line.carried r.below q s.below };
 
     fn is_powered(&self) -> bool {
         self.below.is_powered()

@@ -22,6 +22,10 @@ line_after power q ps = slice_set ps q.to (after power (at ps q.to) q.asking)
 abbrev pub line_reply : Bool → Sent → List Place → Heard
 line_reply power q ps = reply power (at ps q.to) q.asking
 
+-- what the request makes of a line
+abbrev pub meaning_after : Sent → Meaning → Meaning
+meaning_after q l = record l { places = line_after l.power q l.places }
+
 -- Under a repeater every disturbance count is half, rounded down
 
 abbrev pub halved : Place → Place

@@ -1,7 +1,8 @@
-ghost use Rattle.std.specs.Prelude.{◌≡◌};
+ghost use Rattle.std.specs.Prelude.{◌≡◌, ◌∷◌};
 ghost use Rattle.values.specs.Tables.{table};
 ghost use Rattle.telegrams.specs.Requests.{sent, heard};
 ghost use Rattle.lines.specs.Lines.{halved, line_after, line_reply, repeated_after, repeated_reply};
+ghost use Rattle.lines.specs.Sending.{Sends, again};
 
 use super::line::Line;
 use telegrams::request::{Reply, Request};
@@ -31,6 +32,7 @@ impl<L> Repeater<L> {
 impl<L: Line> Repeater<L> {
     /// Passes a request down once more where the first reply was disturbed.
     fn repeat(&mut self, request: Request, first: Reply) -> Reply
+        ensures sends { Sends L.Line.carried self.old.below (again (sent request) (heard first)) self.new.below }
         ensures power { L.Line.power self.new.below ≡ L.Line.power self.old.below }
         ensures after { table (L.Line.stations self.new.below) ≡ repeated_after (L.Line.power self.old.below) (sent request) (table (L.Line.stations self.old.below)) (heard first) }
         ensures reply { heard result ≡ repeated_reply (L.Line.power self.old.below) (sent request) (table (L.Line.stations self.old.below)) (heard first) }
@@ -47,7 +49,7 @@ impl<L: Line> Line for Repeater<L> {
 
     ghost stations = { λ r a. halved (L.Line.stations r.below a) };
 
-    ghost carried = { λ _ _ _. Unit {0} };
+    ghost carried = { λ r q s. Sends L.Line.carried r.below (q ∷ again q (line_reply (L.Line.power r.below) q (table (L.Line.stations r.below)))) s.below };
 
     fn is_powered(&self) -> bool
         ensures { result ≡ L.Line.power self.now.below }
@@ -60,6 +62,7 @@ impl<L: Line> Line for Repeater<L> {
         ensures after { table (λ a. halved (L.Line.stations self.new.below a)) ≡ line_after (L.Line.power self.old.below) (sent request) (table (λ a. halved (L.Line.stations self.old.below a))) }
         ensures reply { heard result ≡ line_reply (L.Line.power self.old.below) (sent request) (table (λ a. halved (L.Line.stations self.old.below a))) }
         ensures below { table (L.Line.stations self.new.below) ≡ repeated_after (L.Line.power self.old.below) (sent request) (line_after (L.Line.power self.old.below) (sent request) (table (L.Line.stations self.old.below))) (line_reply (L.Line.power self.old.below) (sent request) (table (L.Line.stations self.old.below))) }
+        ensures carried { Sends L.Line.carried self.old.below (sent request ∷ again (sent request) (line_reply (L.Line.power self.old.below) (sent request) (table (L.Line.stations self.old.below)))) self.new.below }
     {
         let first = self.below.carry(request);
         self.repeat(request, first)

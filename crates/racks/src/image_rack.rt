@@ -2,7 +2,7 @@ ghost use Rattle.std.specs.Prelude.{◌≡◌, Ok, Err};
 ghost use Rattle.telegrams.specs.Requests.{sent, heard};
 ghost use Rattle.stations.specs.Images.{powered_in, place_at};
 ghost use Rattle.values.specs.Tables.{table};
-ghost use Rattle.lines.specs.Lines.{line_after, line_reply};
+ghost use Rattle.lines.specs.Lines.{meaning, meaning_after, line_after, line_reply};
 ghost use Rattle.racks.specs.Racks.{Opened, Carried, Received};
 
 use super::rack::Rack;
@@ -71,7 +71,8 @@ impl Line for ImageRack<'_> {
 
     ghost stations = { λ i. place_at i.words.now };
 
-    ghost carried = { λ _ _ _. Unit {0} };
+    // A rack keeps no record of requests: that it carried one is what the request made of it.
+    ghost carried = { λ i q j. meaning (powered_in j.words.now) (place_at j.words.now) ≡ meaning_after q (meaning (powered_in i.words.now) (place_at i.words.now)) };
 
     fn is_powered(&self) -> bool {
         self.words.get(STATIONS) == Some(&POWER_UP)

@@ -27,7 +27,7 @@ use Rattle.promise.specs.Successions.{Turn, cycling, calling, setting_mode, edit
 use Rattle.promise.specs.Waiting.{sent_to, exchanges, resets, codes_of, ProjectedSo, Stays, StaysPlugged, Unaltered, LeftInPlace, row_met, done}
 use Rattle.promise.proofs.Bound.{waiting_bound}
 use Rattle.promise.proofs.Sending.{sent-to-append, sent_to_below}
-use Rattle.promise.specs.Sharp.{lawful, lines_met, MeetsAsLeft, Untouched, PassesBy, WaitsLongest, LeastBound}
+use Rattle.promise.specs.Sharp.{lawful, is_protected, lines_met, MeetsAsLeft, Untouched, PassesBy, WaitsLongest, LeastBound}
 
 -- A line that is left as it is: each cycle meets what the one before it left
 
@@ -249,10 +249,17 @@ module _ (b : ℕ) where
   abbrev before : List Turn
   before = replicate (3 + b) (cycling empty) ++ cycling other ∷ calling (editing (projecting b 1 1 5)) ∷ []
 
+  abbrev all_lawful : Bool
+  all_lawful = list_all lawful (lines_met before)
+
+module _ (order_room answer_room b : ℕ) where
+  abbrev new : Card
+  new = new_card order_room answer_room
+
   -- from plugging on: the second cycle is in protected mode, and from the third on nothing happens but cycles
 
   abbrev first : Card
-  first = after before (new_card 1 1)
+  first = after (before b) new
 
   abbrev first_done : Scene
   first_done = cycle first full
@@ -286,17 +293,14 @@ module _ (b : ℕ) where
   abbrev all_wait : Bool
   all_wait = first_waits && (second_waits && others_wait)
 
-  abbrev all_lawful : Bool
-  all_lawful = list_all lawful (lines_met before)
-
-  waits_longest : 1 ≤ b → b < 32 → all_lawful ≡ true → all_wait ≡ true → WaitsLongest 97 b before following
+  waits_longest : 1 ≤ b → b < 32 → all_lawful b ≡ true → is_protected (met second first_done.line) ≡ true → all_wait ≡ true → WaitsLongest 97 b new (before b) following
   unfolding staying
-  waits_longest low h lines e =
+  waits_longest low h lines guarded e =
       let one = and_parts first_waits (second_waits && others_wait) e in
       let two = and_parts second_waits others_wait one.1 in
       let d₁ = met first full in
       let d₂ = met second first_done.line in
-      let plugged : StaysPlugged b (cycles (after before (new_card 1 1)) following) =
+      let plugged : StaysPlugged b (cycles (after (before b) new) following) =
       record {
         admitted = (stays b h 97 d₁ one.0, (stays b h 96 d₂ two.0, stay_all b h 96 third second_done.line two.1));
         left = ((λ x there. (x.inputs, there)), (unaltered_staying b 96 d₂ third, left_staying b 96 third second_done.line));
@@ -307,15 +311,20 @@ module _ (b : ℕ) where
         untouched = (refl, (untouched_first 96 d₂ third, untouched_staying 96 third second_done.line));
         plugged = plugged;
         long = ap (λ n. suc (suc n)) (length-staying 96 third second_done.line);
+        protected = (guarded, tt);
         not_yet = (passes b h 96 d₁ one.0, (passes b h 95 d₂ two.0, pass_all b h 95 third second_done.line two.1));
-        at_last = waiting_bound 1 1 before following b low h plugged;
+        at_last = waiting_bound order_room answer_room (before b) following b low h plugged;
       }
 
 -- it does at every address, by computation
 
-waits_everywhere : list_all all_wait (range_with_len 1 31) ≡ true
+waits_everywhere : (order_room answer_room : ℕ) → list_all (all_wait order_room answer_room) (range_with_len 1 31) ≡ true
 unfolding waits table sent_below pick_within new_control everywhere manage search_on stay_offline cycle sent_to
-waits_everywhere = refl
+waits_everywhere order_room answer_room = refl
+
+protected_everywhere : (order_room answer_room : ℕ) → list_all (λ b. is_protected (met (second order_room answer_room b) (first_done order_room answer_room b).line)) (range_with_len 1 31) ≡ true
+unfolding table sent_below pick_within new_control everywhere manage search_on stay_offline cycle
+protected_everywhere order_room answer_room = refl
 
 lawful_everywhere : list_all all_lawful (range_with_len 1 31) ≡ true
 lawful_everywhere = refl
@@ -329,9 +338,11 @@ pub least_bound : LeastBound 97
 least_bound =
     record {
       enough = waiting_bound;
-      sharp = λ b low high. (
+      sharp = λ order_room answer_room b low high. (
         before b,
-        following b,
-        waits_longest b low high (everywhere_at all_lawful lawful_everywhere b low high) (everywhere_at all_wait waits_everywhere b low high),
+        following order_room answer_room b,
+        waits_longest order_room answer_room b low high (everywhere_at all_lawful lawful_everywhere b low high)
+            (everywhere_at (λ a. is_protected (met (second order_room answer_room a) (first_done order_room answer_room a).line)) (protected_everywhere order_room answer_room) b low high)
+            (everywhere_at (all_wait order_room answer_room) (waits_everywhere order_room answer_room) b low high),
       );
     }

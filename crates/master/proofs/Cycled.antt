@@ -108,9 +108,9 @@ module _ (m : Control) (q q' : Queues) (l : Meaning) (qs : List Sent) (n : ℕ) 
   none_taken : ManagedSo None → LeftSo met
   none_taken managed =
       record {
-        card_is = card_left (waiting q) (uncollected q) (ap (map ordered) managed.0) managed.1 ∙ ap (λ (rs : List Row). card_with (with_rows rs m) q) managed.2;
-        line_is = managed.3;
-        counted = omega (arith, managed.4);
+        card_is = card_left (waiting q) (uncollected q) (ap waiting managed.0) (ap uncollected managed.0) ∙ ap (λ (rs : List Row). card_with (with_rows rs m) q) managed.1;
+        line_is = managed.2;
+        counted = omega (arith, managed.3);
       }
 
   one_taken : (o : Order) (rest : List Order) → held q.orders ≡ o ∷ rest → ManagedSo (Some o) → LeftSo (carry_out (ordered o) (map ordered rest) met)

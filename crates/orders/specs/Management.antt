@@ -48,7 +48,7 @@ sent_for power (Some o) rs ps =
 -- management took this order, if any: queues, rows and line before and afterwards, and how many requests were sent
 abbrev pub Managed : Option Order → Queues → Queues → List Row → List Row → Meaning → Meaning → ℕ → Type 0
 Managed None q q' rs rs' l l' n =
-    (held q'.orders ≡ held q.orders) × (uncollected q' ≡ uncollected q) × (rs' ≡ rs) × (l' ≡ l) × (n ≡ 0)
+    (q' ≡ q) × (rs' ≡ rs) × (l' ≡ l) × (n ≡ 0)
 Managed (Some o) q q' rs rs' l l' n =
     (held q'.orders ≡ take_after (held q.orders))
     × (uncollected q' ≡ uncollected q ++ record { order = ordered o; how = manage_ending l.power (ordered o).asking (row_at (ordered o).to rs) (at l.places (ordered o).to) } ∷ [])

@@ -12,8 +12,10 @@ use Rattle.records.specs.Modes.{in_configuration, mode_outcome}
 use Rattle.records.specs.Rows.{row_at, outputs_outcome, inputs_outcome, config_ok}
 use Rattle.records.specs.declared.record.Mode.{Mode}
 use Rattle.records.specs.declared.record.Mode.TheVariants.{Configuration}
-use Rattle.queues.specs.Fifo.{take_outcome}
+use Rattle.queues.specs.Fifo.{take_outcome, OnlyTaken, OnlyPut}
 use Rattle.orders.specs.Orders.{Told, told}
+use Rattle.orders.specs.Queues.{Served}
+use Rattle.orders.specs.declared.pair.Queues.{Queues}
 use Rattle.lines.specs.Lines.{Meaning}
 use Rattle.lines.specs.Sending.{Sends}
 use Rattle.master.specs.Cycles.{Control, Card, new_card, running, cycle}
@@ -144,6 +146,21 @@ comes_to (calling k) c = call_comes_to k c
 abbrev pub line_left : Meaning → Turn → Card → Meaning
 line_left line (cycling met) c = (cycle c met).line
 line_left line (calling k) c = line
+
+-- what a call leaves of the queues and of the slices under them: a cycle takes orders and puts answers, placing puts an order, collecting takes an
+-- answer, and no other call touches them
+abbrev pub QueuesLeft : Call → Queues → Queues → Type 0
+QueuesLeft Cycle q q' = Served q q'
+QueuesLeft (PlaceParameter a n) q q' = OnlyPut q.orders q'.orders × (q'.answers ≡ q.answers)
+QueuesLeft (PlaceReset a) q q' = OnlyPut q.orders q'.orders × (q'.answers ≡ q.answers)
+QueuesLeft Collect q q' = OnlyTaken q.answers q'.answers × (q'.orders ≡ q.orders)
+QueuesLeft (WriteOutputs a n) q q' = q' ≡ q
+QueuesLeft (ReadInputs a) q q' = q' ≡ q
+QueuesLeft ReadLists q q' = q' ≡ q
+QueuesLeft (SetMode mode) q q' = q' ≡ q
+QueuesLeft (SetOffline on) q q' = q' ≡ q
+QueuesLeft (EditOnce e) q q' = q' ≡ q
+QueuesLeft (EditAll es) q q' = q' ≡ q
 
 -- the requests that a call sends: only a cycle sends any
 abbrev pub sent_by : Turn → Card → List Sent

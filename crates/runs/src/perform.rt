@@ -1,8 +1,8 @@
-ghost use Rattle.queues.specs.Fifo.{UnchangedIfRefused, OnlyPut};
+ghost use Rattle.queues.specs.Fifo.{UnchangedIfRefused};
 ghost use Rattle.lines.specs.Lines.{meaning};
 ghost use Rattle.lines.specs.Sending.{Sends};
 ghost use Rattle.master.specs.Cycles.{card_of};
-ghost use Rattle.runs.specs.Runs.{turn_of, came, sent_by, Performed};
+ghost use Rattle.runs.specs.Runs.{turn_of, came, sent_by, QueuesLeft, Performed};
 
 use super::call::{Call, Given, Outcome};
 use super::edits::edit_all;
@@ -20,8 +20,7 @@ pub fn perform<L: Line>(
     ensures performed { Performed call.entry (meaning (L.power line.old) (L.stations line.old)) (card_of master.old queues.old) (came result) (meaning (L.power line.new) (L.stations line.new)) (card_of master.new queues.new) }
     ensures sends { Sends L.carried line.old (sent_by (turn_of (meaning (L.power line.old) (L.stations line.old)) call.entry) (card_of master.old queues.old)) line.new }
     ensures refused { UnchangedIfRefused result queues.old queues.new }
-    ensures orders { OnlyPut queues.old.orders queues.new.orders }
-    ensures answers { OnlyPut queues.old.answers queues.new.answers }
+    ensures queues { QueuesLeft call.entry queues.old queues.new }
 {
     match call {
         Call::Cycle => Ok(Given::Ran(master.cycle(line, queues))),

@@ -1,4 +1,5 @@
-//! Tests of every returned number, at its edge and in its order, through the public calls on a rack.
+//! Tests through the public calls on a rack: every returned number at its edge and in its order, words, cycles with the requests that a line is given,
+//! projections, and a run with a plant.
 #![tactic(auto)]
 
 #[cfg(test)]

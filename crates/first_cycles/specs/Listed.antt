@@ -1,6 +1,6 @@
 -- What a list of the first cycles shows: four cycles of a new master on the line that an image says, each followed by a reading of the lists. Nothing alters
 -- the line in between.
--- What the eight calls come to is what a run of them comes to by the rules, and no more is said here.
+-- What the eight calls come to is what a run of them comes to by the rules, and no more is said here. docs/IMAGES.md says how it is printed.
 use Rattle.std.specs.Prelude.{ℕ, cond, List, [], ◌∷◌}
 use Rattle.values.specs.Refusals.{Outcome, gives, refuses, refuses_for}
 use Rattle.stations.specs.Images.{image_from, good_image, powered_in, place_at}

@@ -1,4 +1,4 @@
--- A line: whether its power is up, and what stands at the station of each address 0 to 31.
+-- A line means its power, up or down, and the stations of the addresses 0 to 31.
 -- A request changes at most the addressed station, by the rules of one station.
 -- A reader compares them with docs/LINES.md; what one station does is `after` and `reply`, and no more is said here.
 use Rattle.std.specs.Prelude.{ℕ, ◌/◌, Bool, List, slice_index_or, slice_set}

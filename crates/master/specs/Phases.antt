@@ -1,5 +1,4 @@
--- The letters by which phases are listed.
--- They are the first letters of the names.
+-- The letters by which phases are listed. A reader compares them with docs/IMAGES.md.
 use Rattle.std.specs.Prelude.{ℕ}
 use Rattle.master.specs.declared.master.Phase.{Phase}
 use Rattle.master.specs.declared.master.Phase.TheVariants.{Offline, Detection, Activation, Normal}

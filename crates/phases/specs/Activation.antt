@@ -1,6 +1,5 @@
--- Activation: each admissible address in LDS is entered. An address is admissible if it is not 0, its CDI has an I/O code below 15, and
--- the mode is configuration or it is projected with CDI equal to PCD. To enter it is to set PI to PP and send Write_Parameter with
--- that; if a nibble comes, it joins LAS with IDI and misses 0.
+-- Activation: the admissible addresses of LDS are entered. Address 0 is never admissible, nor is I/O code 15; in protected mode nothing is that is
+-- not projected with just the codes that it has. Entering copies PP to PI and sends it by Write_Parameter; on a nibble the address joins LAS.
 -- A reader compares it with docs/CYCLE.md.
 use Rattle.std.specs.Prelude.{ℕ, Bool, true, cond, not, ◌&&◌, ◌||◌, [], ◌∷◌, ◌==◌, nat_lt}
 use Rattle.telegrams.specs.Requests.{Heard, nibble, silence, disturbed, write_parameter}

@@ -1,5 +1,5 @@
--- Data exchange: ODI is sent to every address of LAS. A nibble goes to IDI and clears the misses. Anything else adds a miss, and the third
--- miss in succession takes the address out of LAS and LDS, and sets CDI to 15/15, IDI and misses to 0.
+-- Data exchange: each address of LAS is sent its ODI. A nibble that comes back is its IDI; without one it has missed, and after three misses in a
+-- row it is dropped.
 -- A reader compares it with docs/CYCLE.md.
 use Rattle.std.specs.Prelude.{ℕ, ◌+◌, Bool, false, cond, [], ◌∷◌, nat_lt}
 use Rattle.telegrams.specs.Requests.{Heard, nibble, silence, disturbed, data_exchange}

@@ -1,4 +1,5 @@
--- A normal cycle exchanges exactly once with each address that is active at its start, and with no other. It sends at most 33 requests.
+-- In a normal cycle each address that was active as it began is sent one Data_Exchange, with its ODI, and no other address is sent any. At most 33
+-- requests are sent in all.
 -- The requests are those that the rules send in that cycle (`cycle`); docs/PROMISE.md says what follows for the program.
 use Rattle.std.specs.Prelude.{◌≡◌, ℕ, ◌≤◌, cond, [], ◌∷◌, length}
 use Rattle.records.specs.Rows.{row_at}

@@ -25,7 +25,7 @@ abbrev pub order_from : Placement → Outcome Sent
 order_from (parameter a n) = with_nibble write_parameter a n
 order_from (reset a) = reset_ordered a
 
--- the calls other than the cycle; a projection is one call, with the edits made through it
+-- the calls other than the cycle; all the edits of a projection, from its opening to its end, are one call
 pub data Call : Type 0 where
   placing : Placement → Call
   collecting : Call

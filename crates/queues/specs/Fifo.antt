@@ -48,7 +48,7 @@ UnchangedIfRefused (Err e) before after = after ≡ before
 abbrev pub place_of : ℕ → ℕ → ℕ → ℕ
 place_of n head k = cond (nat_lt k (n - head)) (head + k) (k - (n - head))
 
--- the place behind the newest element, and the slice after a put: no other place is written
+-- the place behind the newest element
 abbrev pub free_place : {T : Type 0} → Queue T → ℕ
 free_place q = place_of (room q) q.head (length (held q))
 
@@ -60,6 +60,7 @@ KeptBut k xs ys = (take k ys ≡ take k xs) × (drop (k + 1) ys ≡ drop (k + 1)
 abbrev pub FreeWritten : {T : Type 0} → Queue T → Queue T → Type 0
 FreeWritten q q' = KeptBut (free_place q) q.slots.now q'.slots.now
 
+-- the slice after a put: no other place is written
 abbrev pub slots_after : {T : Type 0} → Queue T → T → List T
 slots_after q x = cond (nat_lt (length (held q)) (room q)) (slice_set q.slots.now (free_place q) x) q.slots.now
 

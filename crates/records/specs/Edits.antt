@@ -43,7 +43,7 @@ planned projected codes pp r = record r { projected = projected; pcd = codes; pp
 abbrev pub copied : Row → Row
 copied r = planned r.detected r.cdi r.pi r
 
--- LDS without 0, CDI and PI of 1 to 31 are copied to LPS, PCD and PP
+-- what is detected at an address other than 0 is projected
 abbrev pub taken_over : ℕ → Row → Row
 taken_over a r = cond (a == 0) r (copied r)
 

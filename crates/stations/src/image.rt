@@ -85,7 +85,7 @@ fn is_power_word(word: u32) -> bool
     word == POWER_UP || word == POWER_DOWN
 }
 
-pub fn is_image(words: &[u32]) -> bool
+fn is_image(words: &[u32]) -> bool
     ensures is { result ≡ good_image words.now }
     ensures long { result ≡ true → length words.now ≡ 33 }
 {

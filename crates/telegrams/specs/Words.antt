@@ -1,7 +1,7 @@
 -- The words of EN 50295.
 -- A request has 14 bits, highest first: the start bit ST, 0; the control bit CB; five address bits; five information bits I4 to I0;
--- the parity bit PB; the end bit EB, 1. A reply has 7: ST, four data bits, PB, EB. PB makes the number of ones from CB to PB
--- even (in a reply, from the data bits). What stands between ST and PB is called the payload here.
+-- the parity bit PB; the end bit EB, 1. A reply has 7: ST, four data bits, PB, EB. With PB the ones between ST
+-- and EB are even in number. What stands between ST and PB is called the payload here.
 -- A reader compares `framed`, `control` and `information` with this layout; the worked examples pin them. Decoding has no layout of its own:
 -- by the law below a word is taken exactly where it is some request's word.
 use Rattle.std.specs.Prelude.{◌≡◌, ℕ, ◌+◌, ◌*◌, ◌/◌, ◌%◌, ◌<◌, Bool, true, false, cond, not, ◌||◌, Ok, Err, Result, ◌==◌, count_ones, nat_le, nat_lt}

@@ -1,6 +1,7 @@
 -- The line in the worst case: at first it is empty, then the former module stands alone at the address, and from plugging on a new module
 -- stands at every address.
--- It is the line of the sharp case at address 1 (`proofs/Sharp.antt` of the crate `promise`), and the contracts of the program say that it shows it.
+-- It is the line of the sharp case at address 1 (`proofs/Sharp.antt` of the crate `promise`), which a reader compares with this. What is proved of the
+-- program is that its plant plugs so; that it shows the wait is seen in what it prints.
 use Rattle.std.specs.Prelude.{◌≡◌, ℕ, ◌+◌, ◌-◌, ◌^◌, ◌<◌, min, true, false, cond, List, replicate, ◌==◌, slice_set}
 use Rattle.stations.specs.Stations.{State, Place, vacant, occupied}
 use Rattle.racks.specs.Racks.{station_at}

@@ -14,16 +14,15 @@ use values::address::Address;
 /// Every call that takes an image comes to the same number.
 fn check_image<W: Debug + Drop>(rt: &impl Abort, what: W, words: &mut [u32], expected: u16) {
     let request = Request::ReadIo(Address::low(0));
-    assert_eq!(rt; number(test_image(words)), expected, "{what:?}");
-    assert_eq!(rt; number(BenchRack::open(words)), expected, "{what:?}");
-    assert_eq!(rt; number(ImageRack::open(words)), expected, "{what:?}");
-    assert_eq!(rt; number(on_bench(words, request)), expected, "{what:?}");
-    assert_eq!(rt; number(on_image(words, request)), expected, "{what:?}");
-    assert_eq!(rt;
+    let numbers = [
+        number(test_image(words)),
+        number(BenchRack::open(words)),
+        number(ImageRack::open(words)),
+        number(on_bench(words, request)),
+        number(on_image(words, request)),
         number(under_repeater(words, request)),
-        expected,
-        "{what:?}"
-    );
+    ];
+    assert_eq!(rt; numbers, [expected; 6], "{what:?}");
 }
 
 #[test]

@@ -83,23 +83,19 @@ fn request_numbers(rt: HostRuntime) -> Result<(), Fail> {
         (1, 15, 0),
         (31, 15, 0),
     ] {
-        assert_eq!(rt;
+        let numbers = [
             number(Request::data_exchange(address, nibble)),
-            expected,
-            "{}",
-            address
-        );
-        assert_eq!(rt;
             number(Request::write_parameter(address, nibble)),
-            expected,
-            "{}",
-            address
-        );
+        ];
+        assert_eq!(rt; numbers, [expected; 2], "{}", address);
     }
     for (address, expected) in [(0, 0), (31, 0), (32, 0x8381), (0xFFFF_FFFF, 0x8381)] {
-        assert_eq!(rt; number(Request::read_io(address)), expected, "{}", address);
-        assert_eq!(rt; number(Request::read_id(address)), expected, "{}", address);
-        assert_eq!(rt; number(Request::reset(address)), expected, "{}", address);
+        let numbers = [
+            number(Request::read_io(address)),
+            number(Request::read_id(address)),
+            number(Request::reset(address)),
+        ];
+        assert_eq!(rt; numbers, [expected; 3], "{}", address);
     }
     Ok(())
 }

@@ -112,6 +112,34 @@ fn read_edits<'a>(script: &'a [u32], edits: &mut [Edit; EDITS]) -> (usize, &'a [
     (EDITS, rest)
 }
 
+/// Makes the next call of a script and logs it. What is behind it in the script, or nothing where no call was made.
+fn replay_next<'a>(
+    line: u32,
+    script: &'a [u32],
+    words: &mut [u32],
+    master: &mut Master,
+    queues: &mut Queues,
+    logged: &mut [u32],
+) -> Option<&'a [u32]>
+    requires { length logged.old ≡ 111 }
+{
+    let (first, mut rest) = script.split_first_chunk::<CALL_WORDS>()?;
+    let entry = Entry::from_words(first);
+    let mut edits = [Edit::TakeOver; EDITS];
+    let mut count = 0;
+    if entry.projects() {
+        (count, rest) = read_edits(rest, &mut edits);
+    }
+    alter(words, entry.place as usize, entry.word);
+    let call = entry.call(&edits[..count]);
+    let came = outcome_words(on_line(line, call, words, master, queues).ok()?);
+    let words_logged: [u32; LOG_WORDS] = array::from_fn(|k| logged_word(
+        k, &came, master, queues, words,
+    ));
+    logged.copy_from_slice(&words_logged);
+    Some(rest)
+}
+
 /// Replays a script on a new master, and logs each call; how many were made.
 #[unsafe(no_mangle)]
 pub extern "C" fn asi_replay(
@@ -143,26 +171,10 @@ pub extern "C" fn asi_replay(
     let mut rest = script;
     let entries = log.len() / LOG_WORDS;
     for (made, logged) in log.chunks_exact_mut(LOG_WORDS).enumerate() {
-        let Some((first, behind)) = rest.split_first_chunk::<CALL_WORDS>() else {
+        let Some(behind) = replay_next(line, rest, words, &mut master, &mut queues, logged) else {
             return made;
         };
-        let entry = Entry::from_words(first);
         rest = behind;
-        let mut edits = [Edit::TakeOver; EDITS];
-        let mut count = 0;
-        if entry.projects() {
-            (count, rest) = read_edits(rest, &mut edits);
-        }
-        alter(words, entry.place as usize, entry.word);
-        let call = entry.call(&edits[..count]);
-        let Ok(outcome) = on_line(line, call, words, &mut master, &mut queues) else {
-            return made;
-        };
-        let came = outcome_words(outcome);
-        let words_logged: [u32; LOG_WORDS] = array::from_fn(|k| logged_word(
-            k, &came, &master, &queues, words,
-        ));
-        logged.copy_from_slice(&words_logged);
     }
     entries
 }

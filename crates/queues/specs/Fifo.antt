@@ -7,7 +7,7 @@ use Rattle.values.specs.declared.refusal.Refusal.{Refusal}
 use Rattle.values.specs.Refusals.{Outcome, gives, refuses}
 use Rattle.queues.specs.declared.queue.Queue.{Queue}
 
--- the elements from the head on, and then those before it; a head past the end counts as 0
+-- the elements from the head on, and then those before it
 abbrev pub turned : {T : Type 0} → List T → ℕ → List T
 turned xs head = drop head xs ++ take head xs
 

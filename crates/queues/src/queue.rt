@@ -1,11 +1,8 @@
-ghost use Rattle.std.specs.Prelude.{◌≡◌, ◌+◌, ◌<◌, ◌≤◌, [], ◌∷◌, ◌++◌, length, drop, slice_set};
-ghost use Rattle.values.specs.Refusals.{outcome};
-ghost use Rattle.queues.specs.Fifo.{held, room, put_outcome, put_after, take_outcome, take_after, oldest_of, UnchangedIfRefused, place_of, free_place, slots_after, OnlyTaken, OnlyPut};
+ghost use Rattle.std.specs.Prelude.{◌≤◌, length};
 
 use values::refusal::Refusal;
 
-/// First in, first out over the caller's slice; freed places are used again.
-/// Whatever `head` and `len` are, they mean a queue: a head past the end counts as 0, a length past the slice's as that.
+/// A queue in the caller's slice, the oldest element first out; freed places are used again.
 // No `VecDeque`: the memory is fixed, and the caller's.
 #[derive(Drop)]
 pub struct Queue<'a, T> {
@@ -13,9 +10,15 @@ pub struct Queue<'a, T> {
     /// The place of the oldest element.
     head: usize,
     len: usize,
+    ghost inside: { head ≤ length slots.now },
+    ghost fits: { len ≤ length slots.now },
 }
 
 impl<'a, T: Copy> Queue<'a, T> {
+    ghost use Rattle.std.specs.Prelude.{◌≡◌, ◌+◌, ◌<◌, ◌≤◌, [], ◌∷◌, ◌++◌, length, drop, slice_set};
+    ghost use Rattle.values.specs.Refusals.{outcome};
+    ghost use Rattle.queues.specs.Fifo.{held, room, put_outcome, put_after, take_outcome, take_after, oldest_of, UnchangedIfRefused, place_of, free_place, slots_after, OnlyTaken, OnlyPut};
+
     /// An empty queue over the whole slice.
     pub fn new(slots: &'a mut [T]) -> Queue<'a, T>
         ensures empty { held result ≡ [] }
@@ -73,7 +76,7 @@ impl<'a, T: Copy> Queue<'a, T> {
         ensures is { result ≡ length (held self.now) }
         ensures fits { result ≤ room self.now }
     {
-        self.len.min(self.capacity())
+        self.len
     }
 
     /// How many it can hold.
@@ -89,7 +92,7 @@ impl<'a, T: Copy> Queue<'a, T> {
         ensures is { result ≡ place_of (room self.now) self.now.head k }
         ensures inside { k < room self.now → result < room self.now }
     {
-        let from_head = self.capacity().saturating_sub(self.head);
+        let from_head = self.capacity() - self.head;
         if k < from_head {
             self.head + k
         } else {

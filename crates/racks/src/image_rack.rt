@@ -1,6 +1,6 @@
-ghost use Rattle.std.specs.Prelude.{◌≡◌, Ok, Err};
+ghost use Rattle.std.specs.Prelude.{◌≡◌, true, Ok, Err};
 ghost use Rattle.telegrams.specs.Requests.{sent, heard};
-ghost use Rattle.stations.specs.Images.{powered_in, place_at};
+ghost use Rattle.stations.specs.Images.{good_image, powered_in, place_at};
 ghost use Rattle.values.specs.Tables.{table};
 ghost use Rattle.lines.specs.Lines.{meaning, meaning_after, line_after, line_reply};
 ghost use Rattle.racks.specs.Racks.{Opened, Carried, Received};
@@ -18,6 +18,7 @@ use values::refusal::Refusal;
 #[derive(Drop)]
 pub struct ImageRack<'a> {
     words: &'a mut [u32],
+    ghost good: { good_image words.now ≡ true },
 }
 
 impl<'a> ImageRack<'a> {
@@ -33,6 +34,7 @@ impl<'a> ImageRack<'a> {
 
     /// A rack over words that the caller has tested.
     pub(crate) fn over(words: &'a mut [u32]) -> ImageRack<'a>
+        requires { good_image words.old ≡ true }
         ensures holds { result.words.now ≡ words.old }
         ensures lender { result.words.ghost_name ≡ words.entry.ghost_name }
     {
@@ -75,7 +77,7 @@ impl Line for ImageRack<'_> {
     ghost carried = { λ i q j. meaning (powered_in j.words.now) (place_at j.words.now) ≡ meaning_after q (meaning (powered_in i.words.now) (place_at i.words.now)) };
 
     fn is_powered(&self) -> bool {
-        self.words.get(STATIONS) == Some(&POWER_UP)
+        self.words[STATIONS] == POWER_UP
     }
 
     fn carry(&mut self, request: Request) -> Reply
@@ -91,9 +93,6 @@ impl Line for ImageRack<'_> {
 
 impl Rack for ImageRack<'_> {
     fn station(&self, address: Address) -> Station {
-        match self.words.get(usize::from(address)) {
-            Some(&word) => Station::from_word(word),
-            None => Station { module: None },
-        }
+        Station::from_word(self.words[usize::from(address)])
     }
 }

@@ -25,3 +25,6 @@ returns c =
     let image : c.carry.new.self.words.now ≡ image_of (powered_in ws) (line_after (powered_in ws) q (table (place_at ws))) =
     carried_image q ws c.carry.new.self.words.now (heard c.carry.result) good (target_below c.args.request) carried in
     (good, search rules, carried.replied)
+
+pub over-rack-requires : goal.over-rack-requires
+over-rack-requires c = image_passed c.args.words.now c.in_ok-test_image.field-0 c.in_ok-test_image.ensures

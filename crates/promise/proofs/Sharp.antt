@@ -1,6 +1,6 @@
 -- A module that waits as long as any can. The search has named its address with another module's I/O code when it is plugged in, so that
 -- cycle 1 finds mixed codes, and cycle 2 does not enter it, the mode being protected then. The search comes back after all other addresses.
-use Rattle.std.proofs.Common.{◌≡◌, ℕ, zero, suc, ◌+◌, ◌-◌, ◌<◌, ◌≤◌, Bool, true, false, not, ◌&&◌, eqb, ltb, List, [], ◌∷◌, ◌++◌, length, take, set, replicate, refl, ap, ◌∙◌, subst, arith}
+use Rattle.std.proofs.Common.{◌≡◌, ℕ, zero, suc, ◌+◌, ◌-◌, ◌<◌, ◌≤◌, Bool, true, false, not, ◌&&◌, eqb, ltb, List, [], ◌∷◌, ◌++◌, length, take, replicate, refl, ap, ◌∙◌, subst, arith}
 use Rattle.std.specs.List.{AllByRecursion, range_with_len}
 use Rattle.std.proofs.lemmas.Bool.{cond-false, cond_both, and_parts, not-true, eqb-true, ltb-true, false≢true}
 use Rattle.std.proofs.lemmas.List.FromFn.{get_or-range_with_len}
@@ -27,6 +27,7 @@ use Rattle.promise.specs.Successions.{Turn, cycling, calling, setting_mode, edit
 use Rattle.promise.specs.Waiting.{sent_to, exchanges, resets, codes_of, ProjectedSo, Stays, StaysPlugged, Unaltered, LeftInPlace, row_met, done}
 use Rattle.promise.proofs.Bound.{waiting_bound}
 use Rattle.promise.proofs.Sending.{sent-to-append, sent_to_below}
+use Rattle.promise.specs.Longest.{all_vacant, former_alone, all_new, with_power}
 use Rattle.promise.specs.Sharp.{lawful, is_protected, lines_met, MeetsAsLeft, Untouched, PassesBy, WaitsLongest, LeastBound}
 
 -- A line that is left as it is: each cycle meets what the one before it left
@@ -231,23 +232,16 @@ module _ (b : ℕ) (h : b < 32) where
 
 -- The succession
 
-abbrev fresh : ℕ → State
-fresh k = record { io = k; id = 1; inputs = 9; outputs = 15; parameter = 15; direction = 0; enabled = false; disturbance = 0 }
-
 abbrev empty : Meaning
-empty = record { power = true; places = replicate 32 vacant }
+empty = with_power all_vacant
 
 abbrev full : Meaning
-full = record { power = true; places = replicate 32 (occupied (fresh 1)) }
+full = with_power all_new
 
 module _ (b : ℕ) where
-  -- only another module stands at b
-  abbrev other : Meaning
-  other = record { power = true; places = set (replicate 32 vacant) b (occupied (fresh 2)) }
-
   -- up to normal phase, and the search up to b, where it hears the other module's I/O code
   abbrev before : List Turn
-  before = replicate (3 + b) (cycling empty) ++ cycling other ∷ calling (editing (projecting b 1 1 5)) ∷ []
+  before = replicate (3 + b) (cycling empty) ++ cycling (with_power (former_alone b)) ∷ calling (editing (projecting b 1 1 5)) ∷ []
 
   abbrev all_lawful : Bool
   all_lawful = list_all lawful (lines_met before)

@@ -4,3 +4,4 @@ pub mod Once
 pub mod Answering
 pub mod Promise
 pub mod Sharp
+pub mod Longest

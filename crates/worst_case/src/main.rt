@@ -5,7 +5,8 @@
 ghost use Rattle.std.specs.Prelude.{◌≡◌, ◌%◌, true, replicate, Ok, Err};
 ghost use Rattle.stations.specs.Stations.{place_of, occupied};
 ghost use Rattle.stations.specs.Images.{image_of};
-ghost use Rattle.worst_case.specs.Plugging.{fresh, all_vacant, former_alone, all_new, with_power, rack_line, Plugs};
+ghost use Rattle.promise.specs.Longest.{fresh, all_vacant, former_alone, all_new, with_power};
+ghost use Rattle.worst_case.specs.Plugging.{rack_line, Plugs};
 
 use lines::line::Line;
 use master::cycle::Report;
@@ -77,7 +78,7 @@ fn empty_image() -> [u32; IMAGE_WORDS]
 }
 
 fn former_image() -> [u32; IMAGE_WORDS]
-    ensures { result ≡ image_of true former_alone }
+    ensures { result ≡ image_of true (former_alone 1) }
 {
     let mut words = empty_image();
     words[ADDRESS as usize] = module(FORMER_IO_CODE).word();
@@ -101,7 +102,7 @@ struct Plugging {
 
 impl Plugging {
     fn new() -> Result<Plugging, Refusal>
-        ensures { elim result [ Ok p ↦ (p.calls ≡ 0) × (rack_line p.former ≡ with_power former_alone) × (rack_line p.full ≡ with_power all_new) | Err _ ↦ ⊥ ] }
+        ensures { elim result [ Ok p ↦ (p.calls ≡ 0) × (rack_line p.former ≡ with_power (former_alone 1)) × (rack_line p.full ≡ with_power all_new) | Err _ ↦ ⊥ ] }
     {
         Ok(Plugging {
             calls: 0,

@@ -3,7 +3,8 @@ ghost use Rattle.values.specs.Refusals.{outcome};
 ghost use Rattle.lines.specs.Lines.{meaning};
 ghost use Rattle.lines.specs.Sending.{Sends};
 ghost use Rattle.master.specs.Cycles.{new_card};
-ghost use Rattle.runs.specs.Runs.{came, undisturbed, sent_undisturbed, line_undisturbed};
+ghost use Rattle.runs.specs.Outcomes.{came};
+ghost use Rattle.runs.specs.Runs.{undisturbed, sent_undisturbed, line_undisturbed};
 ghost use Rattle.first_cycles.specs.Listed.{script, listed};
 
 use lines::line::Line;

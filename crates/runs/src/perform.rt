@@ -2,7 +2,7 @@ ghost use Rattle.queues.specs.Fifo.{UnchangedIfRefused};
 ghost use Rattle.lines.specs.Lines.{meaning};
 ghost use Rattle.lines.specs.Sending.{Sends};
 ghost use Rattle.master.specs.Cycles.{card_of};
-ghost use Rattle.runs.specs.Runs.{turn_of, came, sent_by, QueuesLeft, Performed};
+ghost use Rattle.runs.specs.Outcomes.{turn_of, came, sent_by, QueuesLeft, Performed};
 
 use super::call::{Call, Given, Outcome};
 use super::edits::edit_all;

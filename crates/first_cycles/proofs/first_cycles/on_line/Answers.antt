@@ -3,8 +3,9 @@ use Rattle.std.proofs.lemmas.List.{take_all}
 use Rattle.lines.specs.Lines.{Meaning, meaning}
 use Rattle.lines.specs.Sending.{Sends}
 use Rattle.master.specs.Cycles.{new_card}
-use Rattle.runs.specs.Runs.{came, undisturbed, sent_undisturbed, line_undisturbed}
-use Rattle.runs.specs.Runs.{Logged}
+use Rattle.runs.specs.Outcomes.{came}
+use Rattle.runs.specs.Runs.{undisturbed, sent_undisturbed, line_undisturbed}
+use Rattle.runs.specs.Outcomes.{Logged}
 use Rattle.runs.proofs.Idling.{idle_run}
 use Rattle.first_cycles.specs.Listed.{script}
 use Rattle.first_cycles.proofs.first_cycles.on_line.Goals as goal

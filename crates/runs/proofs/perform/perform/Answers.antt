@@ -1,7 +1,7 @@
 use Rattle.std.proofs.Common.{refl, ap}
 use Rattle.lines.specs.Lines.{meaning}
 use Rattle.master.specs.Cycles.{card_of}
-use Rattle.runs.specs.Runs.{turn_of}
+use Rattle.runs.specs.Outcomes.{turn_of}
 use Rattle.runs.proofs.Performing.{read_so}
 use Rattle.runs.proofs.perform.perform.Goals as goal
 

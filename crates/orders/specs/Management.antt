@@ -1,6 +1,6 @@
 -- Management takes the oldest order, where one waits and the answer queue is not full. An order for an address that is not in LAS ends
--- with 8382, and nothing is sent. Any other is sent, and ends with what is heard. Where any nibble answers a parameter order, its value becomes
--- PI. What is sent and heard is that of a line's one station, so that the same rule holds on every kind of line.
+-- with 8382, and nothing is sent. Any other is sent, and ends with what is heard. Where any nibble answers a parameter order, the ordered value
+-- becomes PI. What is sent and heard is that of a line's one station, so that the same rule holds on every kind of line.
 -- A reader compares it with docs/CYCLE.md.
 use Rattle.std.specs.Prelude.{◌≡◌, ℕ, Bool, cond, List, [], ◌∷◌, ◌++◌, length, Some, None, Option, nat_lt}
 use Rattle.telegrams.specs.Requests.{Sent, Asking, Heard, nibble, silence, disturbed, data_exchange, write_parameter, read_io, read_id, resetting}

@@ -43,7 +43,7 @@ planned projected codes pp r = record r { projected = projected; pcd = codes; pp
 abbrev pub copied : Row → Row
 copied r = planned r.detected r.cdi r.pi r
 
--- what is detected at an address other than 0 is projected
+-- each address but 0 is in LPS just where it is in LDS; its PCD becomes its CDI, its PP its PI
 abbrev pub taken_over : ℕ → Row → Row
 taken_over a r = cond (a == 0) r (copied r)
 

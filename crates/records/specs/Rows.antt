@@ -67,7 +67,7 @@ outputs_after a n rs = cond (accepts (outputs_outcome a n)) (slice_set rs a (wit
 abbrev pub inputs_outcome : ℕ → List Row → Outcome ℕ
 inputs_outcome a rs = cond (is_module_address a) (gives (row_at a rs).idi) (refuses 0x8381)
 
--- Config_OK: nothing is detected at 0, and at each other address what is projected and nothing else
+-- Config_OK: 0 is not in LDS, and every address is in both LDS and LPS with CDI equal to PCD, or in neither
 
 abbrev pub same_codes : Pair → Pair → Bool
 same_codes p q = p.io == q.io && p.id == q.id

@@ -53,14 +53,21 @@ impl Script<'_> {
         self.cycles(count);
     }
 
-    fn run(&mut self) {
-        for _ in 0..self.random.between(10, 60) {
-            if self.random.percent(10) {
-                let address = self.occupied();
-                self.change_inputs(address);
+    /// Cycles, before some of which something happens on the line.
+    fn eventful_cycles(&mut self, least: u32, greatest: u32, percent: u32, event: fn(&mut Self)) {
+        for _ in 0..self.random.between(least, greatest) {
+            if self.random.percent(percent) {
+                event(self);
             }
             self.cycles(1);
         }
+    }
+
+    fn run(&mut self) {
+        self.eventful_cycles(10, 60, 10, |script| {
+            let address = script.occupied();
+            script.change_inputs(address);
+        });
     }
 
     fn order(&mut self) {
@@ -269,13 +276,10 @@ impl Script<'_> {
 
     /// Much happens at few addresses while the search goes round.
     fn hot_plugging(&mut self) {
-        for _ in 0..self.random.between(10, 50) {
-            if self.random.percent(35) {
-                let address = self.favourite();
-                self.any_alteration(address);
-            }
-            self.cycles(1);
-        }
+        self.eventful_cycles(10, 50, 35, |script| {
+            let address = script.favourite();
+            script.any_alteration(address);
+        });
     }
 
     /// One, two or more misses in succession, with orders between.

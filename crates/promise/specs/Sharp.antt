@@ -1,5 +1,5 @@
 -- The waiting bound is sharp: at every address 1 to 31 a module can be plugged in so that it meets all that the bound asks, and yet no cycle up to 97
--- exchanges with it. So no smaller number would do. The successions are closed and the checker computes them, so they also show that the
+-- exchanges with it. So no smaller number would do. The checker computes these successions, for queues of any room, so they also show that the
 -- hypotheses of the bound can be met.
 use Rattle.std.specs.Prelude.{◌≡◌, ℕ, ◌+◌, ◌<◌, ◌≤◌, Bool, true, not, ◌&&◌, nat_lt, ◌==◌, List, [], ◌∷◌, length, take, drop}
 use Rattle.std.specs.List.{AllByRecursion, list_all}

@@ -1,2 +1,5 @@
 pub mod Visiting
-pub mod Cycled
+pub mod Parts
+pub mod Whole
+pub mod Resting
+pub mod Turning

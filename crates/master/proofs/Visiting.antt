@@ -6,11 +6,11 @@ use Rattle.values.specs.Tables.{table}
 use Rattle.values.proofs.Tables.{is_table}
 use Rattle.telegrams.specs.Requests.{Asking, Sent}
 use Rattle.stations.specs.Stations.{Place, vacant}
-use Rattle.lines.specs.Lines.{Meaning, at}
+use Rattle.lines.specs.Lines.{at}
 use Rattle.records.specs.Rows.{Row, new_row, row_at}
-use Rattle.phases.specs.Visits.{Visit, left_alone, Visited, addressed, sent_below, AllVisited}
-use Rattle.phases.proofs.Visits.{addressed-length}
-use Rattle.master.specs.Cycles.{only}
+use Rattle.phases.specs.Visits.{Visit, left_alone, addressed, sent_below}
+use Rattle.master.specs.Cycles.{Scene, visit_made, everywhere, only}
+use Rattle.master.specs.Cycling.{with_card_rows}
 
 -- what is sent to one address is all that is sent
 module _ (f : ℕ → List Asking) (b : ℕ) (none : (a : ℕ) → (a ≡ b → ⊥) → f a ≡ []) where
@@ -19,7 +19,7 @@ module _ (f : ℕ → List Asking) (b : ℕ) (none : (a : ℕ) → (a ≡ b → 
   before_it zero h = refl
   before_it (suc n) h = ap (λ (qs : List Sent). qs ++ addressed n (f n)) (before_it n (omega arith)) ∙ ap (addressed n) (none n (omega arith))
 
-  pub sent_there : (n : ℕ) → b < n → sent_below n f ≡ addressed b (f b)
+  sent_there : (n : ℕ) → b < n → sent_below n f ≡ addressed b (f b)
   unfolding sent_below
   sent_there zero h = absurd (omega arith)
   sent_there (suc n) h = ⊎_elim last (earlier (sent_there n)) (cases_eq n b)
@@ -33,13 +33,6 @@ module _ (f : ℕ → List Asking) (b : ℕ) (none : (a : ℕ) → (a ≡ b → 
           ∙ append-nil (sent_below n f)
           ∙ rest (omega arith)
 
-module _ (b : ℕ) (v : Row → Place → Visit) (r : Row) (p : Place) where
-  pub only_there : only b v b r p ≡ v r p
-  only_there = cond-true (eqb b b) (v r p) (left_alone r p) (eq-eqb b b refl)
-
-  pub only_elsewhere : (a : ℕ) → (a ≡ b → ⊥) → only b v a r p ≡ left_alone r p
-  only_elsewhere a ne = cond-false (eqb a b) (v r p) (left_alone r p) (ne_eqb a b ne)
-
 -- a write to one place is a table that differs there only
 written_table : {X : Type 0} (xs : List X) (b : ℕ) (x d : X) (f : ℕ → X) → b < 32 → length xs ≡ 32 → f b ≡ x → ((k : ℕ) → (k ≡ b → ⊥) → f k ≡ get_or xs k d) → set xs b x ≡ table f
 written_table {X} xs b x d f inside sized here elsewhere =
@@ -51,36 +44,43 @@ written_table {X} xs b x d f inside sized here elsewhere =
     other : (k : ℕ) → (k ≡ b → ⊥) → get_or (set xs b x) k d ≡ f k
     other k ne = get_or-set_other xs b k x d ne ∙ sym (elsewhere k ne)
 
-pub only_visited : (visit : Bool → Row → Place → Visit) (b : ℕ) (rs rs' : List Row) (l l' : Meaning) (n : ℕ) → b < 32 → length rs ≡ 32 → length l.places ≡ 32 → Visited visit b rs rs' l l' n → AllVisited (λ power. only b (visit power)) rs rs' l l' n
-only_visited visit b rs rs' l l' n inside rows_32 places_32 visited =
-    record {
-      rows_after =
-          visited.rows_after
-          ∙ written_table rs b there.row new_row (λ a. (made a).row) inside rows_32 (ap (λ (w : Visit). w.row) here) (λ k ne. ap (λ (w : Visit). w.row) (alone k ne));
-      line_after =
-          visited.line_after
-          ∙ ap (λ (ps : List Place). record l { places = ps })
-          (written_table l.places b there.place vacant (λ a. (made a).place) inside places_32 (ap (λ (w : Visit). w.place) here) (λ k ne. ap (λ (w : Visit). w.place) (alone k ne)));
-      counted =
-          visited.counted
-          ∙ ap (λ (w : Visit). length w.sent) (sym here)
-          ∙ sym (ap length (sent_there (λ a. (made a).sent) b (λ k ne. ap (λ (w : Visit). w.sent) (alone k ne)) 32 inside) ∙ addressed-length b (made b).sent);
-    }
-  where
-    made : ℕ → Visit
-    made a = only b (visit l.power) a (row_at a rs) (at l.places a)
+module _ (s : Scene) (visit : Row → Place → Visit) (b : ℕ) where
+  abbrev rs : List Row
+  rs = s.card.control.rows
 
-    there : Visit
-    there = visit l.power (row_at b rs) (at l.places b)
+  abbrev ps : List Place
+  ps = s.line.places
 
-    here : made b ≡ there
-    here = only_there b (visit l.power) (row_at b rs) (at l.places b)
+  abbrev there : Visit
+  there = visit (row_at b rs) (at ps b)
 
-    alone : (k : ℕ) → (k ≡ b → ⊥) → made k ≡ left_alone (row_at k rs) (at l.places k)
-    alone k ne = only_elsewhere b (visit l.power) (row_at k rs) (at l.places k) k ne
+  abbrev made : ℕ → Visit
+  made a = visit_made (only b visit) s a
 
--- of a visit to one address, what is sent to it
-pub only_sent : (visit : Row → Place → Visit) (b : ℕ) (rs : List Row) (ps : List Place) → b < 32 → sent_below 32 (λ a. (only b visit a (row_at a rs) (at ps a)).sent) ≡ addressed b (visit (row_at b rs) (at ps b)).sent
-only_sent visit b rs ps inside =
-    sent_there (λ a. (only b visit a (row_at a rs) (at ps a)).sent) b (λ k ne. ap (λ (w : Visit). w.sent) (only_elsewhere b visit (row_at k rs) (at ps k) k ne)) 32 inside
-    ∙ ap (λ (w : Visit). addressed b w.sent) (only_there b visit (row_at b rs) (at ps b))
+  here : made b ≡ there
+  here = cond-true (eqb b b) there (left_alone (row_at b rs) (at ps b)) (eq-eqb b b refl)
+
+  alone : (k : ℕ) → (k ≡ b → ⊥) → made k ≡ left_alone (row_at k rs) (at ps k)
+  alone k ne = cond-false (eqb k b) (visit (row_at k rs) (at ps k)) (left_alone (row_at k rs) (at ps k)) (ne_eqb k b ne)
+
+  -- address b alone was visited
+  abbrev pub visited_there : Scene
+  visited_there =
+      record {
+        card = with_card_rows (set rs b there.row) s.card;
+        line = record s.line { places = set ps b there.place };
+        sent = s.sent ++ addressed b there.sent;
+      }
+
+  pub one_visited : b < 32 → length rs ≡ 32 → length ps ≡ 32 → visited_there ≡ everywhere (only b visit) s
+  unfolding everywhere
+  one_visited inside rows_32 places_32 =
+      let rows : set rs b there.row ≡ table (λ a. (made a).row) =
+      written_table rs b there.row new_row (λ a. (made a).row) inside rows_32 (ap (λ (w : Visit). w.row) here) (λ k ne. ap (λ (w : Visit). w.row) (alone k ne)) in
+      let places : set ps b there.place ≡ table (λ a. (made a).place) =
+      written_table ps b there.place vacant (λ a. (made a).place) inside places_32 (ap (λ (w : Visit). w.place) here) (λ k ne. ap (λ (w : Visit). w.place) (alone k ne)) in
+      let sent : addressed b there.sent ≡ sent_below 32 (λ a. (made a).sent) =
+      sym (sent_there (λ a. (made a).sent) b (λ k ne. ap (λ (w : Visit). w.sent) (alone k ne)) 32 inside ∙ ap (λ (w : Visit). addressed b w.sent) here) in
+      ap (λ (xs : List Row). record visited_there { card = with_card_rows xs s.card }) rows
+      ∙ ap (λ (os : List Place). record (everywhere (only b visit) s) { line = record s.line { places = os }; sent = s.sent ++ addressed b there.sent }) places
+      ∙ ap (λ (qs : List Sent). record (everywhere (only b visit) s) { sent = s.sent ++ qs }) sent

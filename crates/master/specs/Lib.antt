@@ -2,3 +2,5 @@ pub mod Phases
 pub mod Placing
 pub mod Listings
 pub mod Cycles
+pub mod Cycling
+pub mod Turns

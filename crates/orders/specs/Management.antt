@@ -2,16 +2,15 @@
 -- with 8382, and nothing is sent. Any other is sent, and ends with what is heard. Where any nibble answers a parameter order, the ordered value
 -- becomes PI. What is sent and heard is that of a line's one station, so that the same rule holds on every kind of line.
 -- A reader compares it with docs/CYCLE.md.
-use Rattle.std.specs.Prelude.{◌≡◌, ℕ, Bool, cond, List, [], ◌∷◌, ◌++◌, length, Some, None, Option, nat_lt}
-use Rattle.telegrams.specs.Requests.{Sent, Asking, Heard, nibble, silence, disturbed, data_exchange, write_parameter, read_io, read_id, resetting}
-use Rattle.stations.specs.Stations.{Place, after, reply}
-use Rattle.lines.specs.Lines.{Meaning, at}
-use Rattle.queues.specs.Fifo.{held, room, oldest_of, take_after}
-use Rattle.records.specs.Rows.{Row, row_at}
+use Rattle.std.specs.Prelude.{ℕ, Bool, cond, length, None, Option, nat_lt}
+use Rattle.telegrams.specs.Requests.{Asking, Heard, nibble, silence, disturbed, data_exchange, write_parameter, read_io, read_id, resetting}
+use Rattle.stations.specs.Stations.{Place}
+use Rattle.queues.specs.Fifo.{held, room, oldest_of}
+use Rattle.records.specs.Rows.{Row}
 use Rattle.phases.specs.Activation.{with_pi}
-use Rattle.phases.specs.Visits.{Visit, left_alone, Visited, addressed}
-use Rattle.orders.specs.Orders.{ordered, Ending, replied, inactive}
-use Rattle.orders.specs.Queues.{uncollected}
+use Rattle.phases.specs.Dialogues.{Dialogue, comes, asks, whether}
+use Rattle.phases.specs.Visits.{Visit, visit_by, told_by}
+use Rattle.orders.specs.Orders.{Ending, replied, inactive}
 use Rattle.orders.specs.declared.order.Order.{Order}
 use Rattle.orders.specs.declared.pair.Queues.{Queues}
 
@@ -28,28 +27,21 @@ managed q r (nibble n) = taken q r
 managed q r silence = r
 managed q r disturbed = r
 
+-- what becomes of the row and of the order
+pub record Ended : Type 0 where
+  pub row : Row
+  pub how : Ending
+
+abbrev pub manage_dialogue : Asking → Row → Dialogue Ended
+manage_dialogue q r =
+    whether r.active (asks q (λ h. comes (record { row = managed q r h; how = replied h }))) (comes (record { row = r; how = inactive }))
+
 abbrev pub manage_visit : Bool → Asking → Row → Place → Visit
-manage_visit power q r p =
-    cond r.active (record { row = managed q r (reply power p q); place = after power p q; sent = q ∷ [] }) (left_alone r p)
+manage_visit power q r p = visit_by (λ e. e.row) power (manage_dialogue q r) p
 
 abbrev pub manage_ending : Bool → Asking → Row → Place → Ending
-manage_ending power q r p = cond r.active (replied (reply power p q)) inactive
+manage_ending power q r p = told_by (λ e. e.how) power (manage_dialogue q r) p
 
 -- the order that is taken: the oldest, where its answer has room
 abbrev pub next_order : Queues → Option Order
 next_order q = cond (nat_lt (length (held q.answers)) (room q.answers)) (oldest_of (held q.orders)) None
-
--- what is sent for it, if any
-abbrev pub sent_for : Bool → Option Order → List Row → List Place → List Sent
-sent_for power None rs ps = []
-sent_for power (Some o) rs ps =
-    addressed (ordered o).to (manage_visit power (ordered o).asking (row_at (ordered o).to rs) (at ps (ordered o).to)).sent
-
--- management took this order, if any: queues, rows and line before and afterwards, and how many requests were sent
-abbrev pub Managed : Option Order → Queues → Queues → List Row → List Row → Meaning → Meaning → ℕ → Type 0
-Managed None q q' rs rs' l l' n =
-    (q' ≡ q) × (rs' ≡ rs) × (l' ≡ l) × (n ≡ 0)
-Managed (Some o) q q' rs rs' l l' n =
-    (held q'.orders ≡ take_after (held q.orders))
-    × (uncollected q' ≡ uncollected q ++ record { order = ordered o; how = manage_ending l.power (ordered o).asking (row_at (ordered o).to rs) (at l.places (ordered o).to) } ∷ [])
-    × Visited (λ power. manage_visit power (ordered o).asking) (ordered o).to rs rs' l l' n

@@ -41,11 +41,6 @@ ending_number (replied silence) = 0x8383
 ending_number (replied disturbed) = 0x8383
 ending_number inactive = 0x8382
 
--- how many requests were sent
-abbrev pub requests_of : Ending → ℕ
-requests_of (replied y) = 1
-requests_of inactive = 0
-
 -- an answer tells how an order ended
 pub record Told : Type 0 where
   pub order : Sent

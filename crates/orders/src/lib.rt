@@ -1,4 +1,4 @@
-//! The controller's orders, their answers, and management: carrying one order out on any line.
+//! The controller's orders, their answers, the two queues of them, and what the reply to an order makes of the row.
 #![tactic(auto)]
 
 pub mod management;

@@ -1,7 +1,7 @@
 ghost use Rattle.std.specs.Prelude.{◌≡◌};
 ghost use Rattle.values.specs.Refusals.{outcome};
 ghost use Rattle.telegrams.specs.Requests.{sent, with_nibble, write_parameter};
-ghost use Rattle.orders.specs.Orders.{ordered, reset_ordered, unanswered, ending_number, requests_of, told};
+ghost use Rattle.orders.specs.Orders.{ordered, reset_ordered, unanswered, ending_number};
 
 use telegrams::request::Request;
 use values::address::Address;
@@ -75,16 +75,4 @@ impl Unanswered {
 pub struct Answer {
     pub order: Order,
     pub result: Result<Nibble, Unanswered>,
-}
-
-impl Answer {
-    /// How many requests were sent for the order.
-    pub fn requests(self) -> u32
-        ensures { result ≡ requests_of (told self).how }
-    {
-        match self.result {
-            Err(Unanswered::NotActive) => 0,
-            Ok(_) | Err(_) => 1,
-        }
-    }
 }

@@ -72,7 +72,7 @@ impl<'a> Queues<'a> {
     }
 
     /// The order that is carried out next: the oldest, where its answer has room.
-    pub(crate) fn next(&self) -> Option<Order>
+    pub fn next(&self) -> Option<Order>
         ensures { result ≡ next_order self.now }
     {
         if self.uncollected() < self.answers.capacity() {
@@ -83,7 +83,7 @@ impl<'a> Queues<'a> {
     }
 
     /// Takes the order that `next` gave, and puts its answer.
-    pub(crate) fn finish(&mut self, answer: Answer)
+    pub fn finish(&mut self, answer: Answer)
         ensures orders { held self.new.orders ≡ take_after (held self.old.orders) }
         ensures answers { held self.new.answers ≡ put_after (room self.old.answers) (held self.old.answers) answer }
         ensures served { Served self.old self.new }

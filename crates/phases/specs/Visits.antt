@@ -1,12 +1,10 @@
--- A visit: what the master does at one address. From the row and the station there it makes the row and the station afterwards, and what
--- was sent. A part of a cycle visits each address, lowest first.
--- What the visits are is said where each part of a cycle is; here is only how they are put together, the same for all of them.
-use Rattle.std.specs.Prelude.{◌≡◌, ℕ, zero, suc, Bool, List, [], ◌∷◌, ◌++◌, length, slice_set}
+-- A visit: what a conversation with one address comes to at a station, whose replies follow the rules of docs/LINES.md. From the row and the
+-- station it makes the row and the station afterwards, and what was sent.
+use Rattle.std.specs.Prelude.{ℕ, zero, suc, Bool, cond, List, [], ◌∷◌, ◌++◌}
 use Rattle.telegrams.specs.Requests.{Asking, Sent}
-use Rattle.values.specs.Tables.{table}
-use Rattle.stations.specs.Stations.{Place}
-use Rattle.lines.specs.Lines.{Meaning, at}
-use Rattle.records.specs.Rows.{Row, row_at}
+use Rattle.stations.specs.Stations.{Place, after, reply}
+use Rattle.records.specs.Rows.{Row}
+use Rattle.phases.specs.Dialogues.{Dialogue, comes, asks, whether}
 
 pub record Visit : Type 0 where
   pub row : Row
@@ -16,12 +14,23 @@ pub record Visit : Type 0 where
 abbrev pub left_alone : Row → Place → Visit
 left_alone r p = record { row = r; place = p; sent = [] }
 
--- address a was visited: from rows rs and line l, and n requests were sent. What the visit is may depend on whether power is up, which it
--- does not change
-pub record Visited (visit : Bool → Row → Place → Visit) (a : ℕ) (rs rs' : List Row) (l l' : Meaning) (n : ℕ) : Type 0 where
-  pub rows_after : rs' ≡ slice_set rs a (visit l.power (row_at a rs) (at l.places a)).row
-  pub line_after : l' ≡ record l { places = slice_set l.places a (visit l.power (row_at a rs) (at l.places a)).place }
-  pub counted : n ≡ length (visit l.power (row_at a rs) (at l.places a)).sent
+abbrev pub behind_asking : Asking → Visit → Visit
+behind_asking q v = record v { sent = q ∷ v.sent }
+
+-- the visit that a conversation makes; the row is told by what it comes to
+abbrev pub visit_by : {A : Type 0} → (A → Row) → Bool → Dialogue A → Place → Visit
+visit_by row power (comes x) p = left_alone (row x) p
+visit_by row power (asks q k) p = behind_asking q (visit_by row power (k (reply power p q)) (after power p q))
+visit_by row power (whether b c d) p = cond b (visit_by row power c p) (visit_by row power d p)
+
+abbrev pub visit : Bool → Dialogue Row → Place → Visit
+visit power c p = visit_by (λ r. r) power c p
+
+-- what it comes to besides
+abbrev pub told_by : {A B : Type 0} → (A → B) → Bool → Dialogue A → Place → B
+told_by part power (comes x) p = part x
+told_by part power (asks q k) p = told_by part power (k (reply power p q)) (after power p q)
+told_by part power (whether b c d) p = cond b (told_by part power c p) (told_by part power d p)
 
 -- All addresses are visited, lowest first
 
@@ -33,8 +42,3 @@ addressed a (q ∷ qs) = record { to = a; asking = q } ∷ addressed a qs
 unfoldable pub sent_below : ℕ → (ℕ → List Asking) → List Sent
 sent_below zero f = []
 sent_below (suc n) f = sent_below n f ++ addressed n (f n)
-
-pub record AllVisited (visit : Bool → ℕ → Row → Place → Visit) (rs rs' : List Row) (l l' : Meaning) (n : ℕ) : Type 0 where
-  pub rows_after : rs' ≡ table (λ a. (visit l.power a (row_at a rs) (at l.places a)).row)
-  pub line_after : l' ≡ record l { places = table (λ a. (visit l.power a (row_at a rs) (at l.places a)).place) }
-  pub counted : n ≡ length (sent_below 32 (λ a. (visit l.power a (row_at a rs) (at l.places a)).sent))

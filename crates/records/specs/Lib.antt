@@ -3,3 +3,4 @@ pub mod Modes
 pub mod Records
 pub mod Edits
 pub mod Editing
+pub mod Ahead

@@ -33,6 +33,10 @@ impl Record {
         }
     }
 
+    pub fn restored(mode: Mode, rows: Rows) -> Record {
+        Record { mode, rows }
+    }
+
     pub fn mode(&self) -> Mode
         ensures { result ≡ self.now.mode }
     {

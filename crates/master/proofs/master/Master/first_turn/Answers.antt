@@ -1,0 +1,22 @@
+use Rattle.std.proofs.Common.{◌≡◌, sym, ap, ◌∙◌, arith}
+use Rattle.phases.specs.Conversations.{done}
+use Rattle.master.specs.Cycles.{Control, card_of, with_control}
+use Rattle.master.specs.Cycling.{cycle_conversation}
+use Rattle.master.proofs.Resting.{detect_at}
+use Rattle.master.proofs.master.Master.first_turn.Goals as goal
+
+pub returns-in-Offline-clause-rest : goal.returns-in-Offline-clause-rest
+unfolding cycle_conversation
+returns-in-Offline-clause-rest c = rw c.in-Offline.is (ap (λ (m : Control). done (with_control m (card_of c.args.self.now c.args.queues.now))) c.stay_offline.ensures)
+
+pub returns-in-Detection-clause-rest : goal.returns-in-Detection-clause-rest
+unfolding cycle_conversation
+returns-in-Detection-clause-rest c = rw c.in-Detection.is (detect_at 0 c.low.result.value _ (omega arith) (omega arith))
+
+pub returns-in-Normal-clause-rest : goal.returns-in-Normal-clause-rest
+unfolding cycle_conversation
+returns-in-Normal-clause-rest c = rw c.in-Normal.is c.exchange_from.ensures.rest
+
+pub returns-in-Activation-clause-rest : goal.returns-in-Activation-clause-rest
+unfolding cycle_conversation
+returns-in-Activation-clause-rest c = rw c.in-Activation.is c.activate_from.ensures.rest

@@ -1,0 +1,14 @@
+use Rattle.std.proofs.Common.{◌≡◌, sym, ap, ◌∙◌, arith}
+use Rattle.telegrams.specs.Requests.{heard}
+use Rattle.records.specs.Rows.{Row}
+use Rattle.records.specs.Records.{rows}
+use Rattle.records.proofs.Written.{rows_sized}
+use Rattle.phases.specs.Conversations.{done}
+use Rattle.master.specs.Cycles.{Card, control_of, card_of}
+use Rattle.master.proofs.Resting.{step_taken}
+use Rattle.master.proofs.master.Master.turn_after.Goals as goal
+
+pub returns-in-Name-clause-rest : goal.returns-in-Name-clause-rest
+returns-in-Name-clause-rest c =
+    rw (c.take_step-in-Name.ensures.turn, c.in-Name.is)
+    (ap (λ (d : Card). done d) (step_taken (control_of c.args.self.now) (control_of c.take_step-in-Name.new.self) c.args.queues.now c.in-Name.at.value _ (heard c.args.reply) _ c.in-Name.at.ok (rows_sized c.args.self.now.table.rows) c.hear_called.ensures c.take_step-in-Name.ensures.step))

@@ -1,0 +1,102 @@
+-- What is left of a cycle at each turn: a conversation, for every reply that may come. It speaks of the master as it is at that turn.
+-- A reader compares each turn with the part of a cycle (Cycling.antt) that it stands in: what is asked there, what the reply makes of the row,
+-- and the rest of that part.
+use Rattle.std.specs.Prelude.{ℕ, Bool, true, false, ◌+◌, ◌-◌, ◌*◌, cond, nat_lt, length, List, [], ◌∷◌, ◌++◌, drop}
+use Rattle.telegrams.specs.Requests.{Sent, Heard, silence, nibble, data_exchange, write_parameter, read_io, read_id}
+use Rattle.records.specs.Rows.{Row}
+use Rattle.phases.specs.Exchange.{exchanged, exchange_dialogue}
+use Rattle.phases.specs.Detection.{name_after, detect_dialogue}
+use Rattle.phases.specs.Activation.{admissible, with_pi, entered, activate_dialogue}
+use Rattle.phases.specs.Conversations.{Conversation, done}
+use Rattle.phases.specs.Dialogues.{Dialogue, comes, asks, dialogue_at}
+use Rattle.orders.specs.Orders.{ordered, Ending, replied}
+use Rattle.orders.specs.Management.{Ended, managed}
+use Rattle.search.specs.Steps.{step_after}
+use Rattle.search.specs.Searches.{Stepped, sought, called}
+use Rattle.master.specs.Cycles.{Card}
+use Rattle.master.specs.Cycling.{row_in_card, with_card_row, with_each_of, managing, searching, to_step}
+use Rattle.master.specs.declared.turn.Turn.{Turn}
+use Rattle.master.specs.declared.turn.Turn.TheVariants.{Over, DetectIo, DetectId, Activate, Exchange, Manage, Seek, Name, Enter}
+
+-- What is left of each part from an address on
+
+abbrev pub with_each_from : (ℕ → Row → Dialogue Row) → ℕ → Card → (Card → Conversation Card) → Conversation Card
+with_each_from dialogue a c f = with_each_of (32 - a) a dialogue c f
+
+abbrev pub detect_rest : ℕ → Card → Conversation Card
+detect_rest a c = with_each_from (λ b. detect_dialogue) a c (λ d. done d)
+
+abbrev pub activate_rest : ℕ → Card → Conversation Card
+activate_rest a c = with_each_from (activate_dialogue c.control.mode) a c (λ d. done d)
+
+abbrev pub manage_rest : Card → Conversation Card
+manage_rest c = managing c.orders c searching
+
+abbrev pub exchange_rest : ℕ → Card → Conversation Card
+exchange_rest a c = with_each_from (λ b. exchange_dialogue) a c manage_rest
+
+-- At one address
+
+-- n is sent as the parameter; whatever is replied, it is PI
+abbrev pub entered_with : ℕ → Row → Heard → Row
+entered_with n r h = with_pi n (entered r h)
+
+-- order o has ended so: it leaves the queue, and its answer is put where it has room
+abbrev pub put_back : Sent → Ending → Card → Card
+put_back o how c =
+    record c {
+      orders = drop 1 c.orders;
+      answers = cond (nat_lt (length c.answers) c.answer_room) (c.answers ++ record { order = o; how = how } ∷ []) c.answers;
+    }
+
+abbrev pub manage_turn : Sent → Card → Conversation Card
+manage_turn o c =
+    dialogue_at o.to (asks o.asking (λ h. comes (record { row = managed o.asking (row_in_card o.to c) h; how = replied h })))
+    (λ (e : Ended). searching (put_back o e.how (with_card_row o.to e.row c)))
+
+-- a step of the search was taken at address a
+abbrev pub step_rest : ℕ → Card → Stepped → Conversation Card
+step_rest a c e = done (to_step (step_after c.control.step a e.deciding (admissible c.control.mode a e.row)) (with_card_row a e.row c))
+
+-- At each turn
+
+abbrev pub rest_of : Turn → Card → Conversation Card
+rest_of Over c = done c
+rest_of (DetectIo a) c = dialogue_at a.value (detect_dialogue (row_in_card a.value c)) (λ r. detect_rest (a.value + 1) (with_card_row a.value r c))
+rest_of (DetectId a n) c = dialogue_at a.value (name_after (row_in_card a.value c) (nibble n.value)) (λ r. detect_rest (a.value + 1) (with_card_row a.value r c))
+rest_of (Activate a n) c =
+    dialogue_at a.value (asks (write_parameter n.value) (λ h. comes (entered_with n.value (row_in_card a.value c) h)))
+    (λ r. activate_rest (a.value + 1) (with_card_row a.value r c))
+rest_of (Exchange a n) c =
+    dialogue_at a.value (asks (data_exchange n.value) (λ h. comes (exchanged (row_in_card a.value c) h)))
+    (λ r. exchange_rest (a.value + 1) (with_card_row a.value r c))
+rest_of (Manage o) c = manage_turn (ordered o) c
+rest_of (Seek a) c = dialogue_at a.value (asks read_io (λ h. comes (record { row = sought (row_in_card a.value c) h; deciding = h }))) (step_rest a.value c)
+rest_of (Name a n) c = dialogue_at a.value (asks read_id (λ h. comes (record { row = called n.value (row_in_card a.value c) h; deciding = h }))) (step_rest a.value c)
+rest_of (Enter a n) c =
+    dialogue_at a.value (asks (write_parameter n.value) (λ h. comes (record { row = entered_with n.value (row_in_card a.value c) h; deciding = silence })))
+    (step_rest a.value c)
+
+-- how many requests are left at most
+abbrev pub left_at : Turn → ℕ
+left_at Over = 0
+left_at (DetectIo a) = 2 * (32 - a.value)
+left_at (DetectId a n) = 2 * (31 - a.value) + 1
+left_at (Activate a n) = 32 - a.value
+left_at (Exchange a n) = 34 - a.value
+left_at (Manage o) = 2
+left_at (Seek a) = 1
+left_at (Name a n) = 1
+left_at (Enter a n) = 1
+
+-- an order may still end in this cycle
+abbrev pub before_answer : Turn → Bool
+before_answer Over = false
+before_answer (DetectIo a) = false
+before_answer (DetectId a n) = false
+before_answer (Activate a n) = false
+before_answer (Exchange a n) = true
+before_answer (Manage o) = true
+before_answer (Seek a) = false
+before_answer (Name a n) = false
+before_answer (Enter a n) = false

@@ -1,0 +1,311 @@
+ghost use Rattle.std.specs.Prelude.{◌≡◌, ◌≤◌, ◌<◌, ◌+◌, ◌-◌, ◌*◌, option_map, true, false, None, Some, ◌&&◌, not, ◌||◌, if◌then◌else◌};
+ghost use Rattle.telegrams.specs.Requests.{sent, heard};
+ghost use Rattle.phases.specs.Activation.{admissible};
+ghost use Rattle.phases.specs.Conversations.{question, when_heard};
+ghost use Rattle.orders.specs.Queues.{Served};
+ghost use Rattle.records.specs.Rows.{row_at};
+ghost use Rattle.records.specs.Records.{rows};
+ghost use Rattle.search.specs.Steps.{step_after};
+ghost use Rattle.master.specs.Cycles.{Card, control_of, with_step, card_of};
+ghost use Rattle.master.specs.Cycling.{cycle_conversation, searching};
+ghost use Rattle.master.specs.Turns.{rest_of, left_at, manage_rest, exchange_rest, detect_rest, activate_rest, before_answer};
+
+use super::cycle::Report;
+use super::master::{Master, Phase};
+use super::turn::Turn;
+use orders::management::hear_order;
+use orders::order::{Answer, Unanswered};
+use orders::pair::Queues;
+use phases::activation::{hear_entered, is_admissible};
+use phases::detection::detect_at;
+use phases::exchange::hear_data;
+use records::entry::Codes;
+use search::searching::{hear_called, hear_sought};
+use search::step::{Step, pick};
+use telegrams::request::{Reply, Request};
+use values::address::Address;
+use values::module_address::ModuleAddress;
+use values::nibble::Nibble;
+
+/// A cycle under way. `Master::begin` gives it, `next` the request that is to be sent, `Master::hear` takes the reply; where nothing is next, the
+/// cycle is over and `report` tells what it was.
+#[derive(Drop)]
+pub struct Cycle {
+    pub(crate) phase: Phase,
+    pub(crate) requests: u32,
+    pub(crate) turn: Turn,
+    ghost few: { requests + left_at turn ≤ 64 },
+}
+
+impl Cycle {
+    /// The request that is next; none where the cycle is over.
+    #[inline(always)]
+    pub fn next(&self) -> Option<Request>
+        ensures { (c : Card) → option_map sent result ≡ question (rest_of self.now.turn c) }
+    {
+        match self.turn {
+            Turn::Over => None,
+            Turn::DetectIo(at) | Turn::Seek(at) => Some(Request::ReadIo(at)),
+            Turn::DetectId(at, _) | Turn::Name(at, _) => Some(Request::ReadId(at)),
+            Turn::Activate(to, pp) | Turn::Enter(to, pp) => Some(Request::WriteParameter(to, pp)),
+            Turn::Exchange(to, odi) => Some(Request::DataExchange(to, odi)),
+            Turn::Manage(order) => Some(order.request()),
+        }
+    }
+
+    /// The phase that it runs in, and how many of its requests have had their reply.
+    pub fn report(&self) -> Report
+        ensures phase { result.phase ≡ self.now.phase }
+        ensures requests { result.requests ≡ self.now.requests }
+    {
+        Report {
+            phase: self.phase,
+            requests: self.requests,
+        }
+    }
+}
+
+impl Turn {
+    /// Detection behind an address.
+    fn detect_behind(at: Address) -> Turn
+        ensures rest { (c : Card) → rest_of result c ≡ detect_rest (at.value + 1) c }
+        ensures few { left_at result ≤ 2 * (31 - at.value) }
+        ensures late { before_answer result ≡ false }
+    {
+        if at.get() < 31 {
+            Turn::DetectIo(Address::low(u32::from(at) + 1))
+        } else {
+            Turn::Over
+        }
+    }
+}
+
+impl Master {
+    /// Begins a cycle, with power up or not. What asks nothing is done at once.
+    pub fn begin(&mut self, queues: &mut Queues, powered: bool) -> Cycle
+        ensures phase { result.phase ≡ (if self.old.offline || not powered then Phase.Offline else self.old.phase) }
+        ensures none { result.requests ≡ 0 }
+        ensures rest { rest_of result.turn (card_of self.new queues.new) ≡ cycle_conversation result.phase powered (card_of self.old queues.old) }
+        ensures served { Served queues.old queues.new }
+        ensures early { before_answer result.turn ≡ true → queues.new ≡ queues.old }
+    {
+        let phase = self.phase_with(powered);
+        let turn = self.first_turn(queues, phase, powered);
+        Cycle {
+            phase,
+            requests: 0,
+            turn,
+        }
+    }
+
+    fn first_turn(&mut self, queues: &mut Queues, phase: Phase, powered: bool) -> Turn
+        ensures rest { rest_of result (card_of self.new queues.new) ≡ cycle_conversation phase powered (card_of self.old queues.old) }
+        ensures few { left_at result ≤ 64 }
+        ensures served { Served queues.old queues.new }
+        ensures early { before_answer result ≡ true → queues.new ≡ queues.old }
+    {
+        match phase {
+            Phase::Offline => {
+                self.stay_offline(powered);
+                Turn::Over
+            }
+            Phase::Detection => {
+                self.phase = Phase::Activation;
+                Turn::DetectIo(Address::low(0))
+            }
+            Phase::Activation => {
+                self.phase = Phase::Normal;
+                self.activate_from(queues, 0)
+            }
+            Phase::Normal => self.exchange_from(queues, 0),
+        }
+    }
+
+    /// Takes the reply to the request that was next. Where none was, nothing changes.
+    #[inline(always)]
+    pub fn hear(&mut self, queues: &mut Queues, cycle: &mut Cycle, reply: Reply)
+        ensures goes_on { rest_of cycle.new.turn (card_of self.new queues.new) ≡ when_heard (heard reply) (rest_of cycle.old.turn (card_of self.old queues.old)) }
+        ensures nearer { (question (rest_of cycle.old.turn (card_of self.old queues.old)) ≡ None → ⊥) → left_at cycle.new.turn < left_at cycle.old.turn }
+        ensures counted { (question (rest_of cycle.old.turn (card_of self.old queues.old)) ≡ None → ⊥) → cycle.new.requests ≡ cycle.old.requests + 1 }
+        ensures unasked { question (rest_of cycle.old.turn (card_of self.old queues.old)) ≡ None → (self.new ≡ self.old) × (queues.new ≡ queues.old) × (cycle.new ≡ cycle.old) }
+        ensures phase { cycle.new.phase ≡ cycle.old.phase }
+        ensures served { Served queues.old queues.new }
+        ensures early { before_answer cycle.new.turn ≡ true → (queues.new ≡ queues.old) × (before_answer cycle.old.turn ≡ true) }
+        ensures late { before_answer cycle.old.turn ≡ false → queues.new ≡ queues.old }
+    {
+        if cycle.turn == Turn::Over {
+            return;
+        }
+        let turn = self.turn_after(queues, cycle.turn, reply);
+        *cycle = Cycle {
+            phase: cycle.phase,
+            requests: cycle.requests + 1,
+            turn,
+        };
+    }
+
+    #[inline(always)]
+    fn turn_after(&mut self, queues: &mut Queues, turn: Turn, reply: Reply) -> Turn
+        ensures rest { rest_of result (card_of self.new queues.new) ≡ when_heard (heard reply) (rest_of turn (card_of self.old queues.old)) }
+        ensures nearer { (turn ≡ Turn.Over → ⊥) → left_at result < left_at turn }
+        ensures served { Served queues.old queues.new }
+        ensures early { before_answer result ≡ true → (queues.new ≡ queues.old) × (before_answer turn ≡ true) }
+        ensures late { before_answer turn ≡ false → queues.new ≡ queues.old }
+    {
+        let rows = &mut self.table.rows;
+        match turn {
+            Turn::Over => Turn::Over,
+            Turn::DetectIo(at) => match reply {
+                Reply::Answer(io) => Turn::DetectId(at, io),
+                Reply::Silence | Reply::Disturbed => Turn::detect_behind(at),
+            },
+            Turn::DetectId(at, io) => {
+                if let Reply::Answer(id) = reply {
+                    detect_at(rows, at, Codes { io, id });
+                }
+                Turn::detect_behind(at)
+            }
+            Turn::Activate(to, pp) => {
+                hear_entered(rows, to, pp, reply);
+                self.activate_from(queues, u32::from(to.get()) + 1)
+            }
+            Turn::Exchange(to, _) => {
+                hear_data(rows, Address::from(to), reply);
+                self.exchange_from(queues, u32::from(to.get()) + 1)
+            }
+            Turn::Manage(order) => {
+                let result = hear_order(rows, order, reply);
+                queues.finish(Answer { order, result });
+                self.search_next(queues)
+            }
+            Turn::Seek(at) => {
+                hear_sought(rows, at, reply);
+                self.take_step(at, reply)
+            }
+            Turn::Name(at, io) => {
+                hear_called(rows, at, io, reply);
+                self.take_step(at, reply)
+            }
+            Turn::Enter(to, pp) => {
+                hear_entered(rows, to, pp, reply);
+                self.take_step(Address::from(to), Reply::Silence)
+            }
+        }
+    }
+
+    /// Data exchange from an address on, or else what follows it.
+    #[inline(always)]
+    fn exchange_from(&mut self, queues: &mut Queues, from: u32) -> Turn
+        requires { from ≤ 32 }
+        ensures rest { rest_of result (card_of self.new queues.new) ≡ exchange_rest from (card_of self.old queues.old) }
+        ensures few { left_at result ≤ 34 - from }
+        ensures served { Served queues.old queues.new }
+        ensures early { before_answer result ≡ true → queues.new ≡ queues.old }
+    {
+        if let Some(to) = self.table.rows.first_active(from) {
+            return Turn::Exchange(to, self.output_data(to));
+        }
+        self.manage_next(queues)
+    }
+
+    /// Management, or else what follows it. An order for an address that is not active ends at once.
+    fn manage_next(&mut self, queues: &mut Queues) -> Turn
+        ensures rest { rest_of result (card_of self.new queues.new) ≡ manage_rest (card_of self.old queues.old) }
+        ensures few { left_at result ≤ 2 }
+        ensures served { Served queues.old queues.new }
+        ensures early { before_answer result ≡ true → queues.new ≡ queues.old }
+    {
+        let Some(order) = queues.next() else {
+            return self.search_next(queues);
+        };
+        if self.table.rows.is_active(order.address()) {
+            return Turn::Manage(order);
+        }
+        queues.finish(Answer {
+            order,
+            result: Err(Unanswered::NotActive),
+        });
+        self.search_next(queues)
+    }
+
+    /// The search. To enter an address that is not admissible asks nothing, and is done at once.
+    fn search_next(&mut self, queues: &Queues) -> Turn
+        ensures rest { rest_of result (card_of self.new queues.now) ≡ searching (card_of self.old queues.now) }
+        ensures few { left_at result ≤ 1 }
+        ensures late { before_answer result ≡ false }
+    {
+        match self.step {
+            Step::Seek(from) => Turn::Seek(pick(&self.table.rows, from)),
+            Step::Name(at, io) => Turn::Name(at, io),
+            Step::Enter(at) => {
+                if let Some(to) = self.admitted(at) {
+                    return Turn::Enter(to, self.permanent_parameter(to));
+                }
+                self.step = self.step.after(at, Reply::Silence, false);
+                Turn::Over
+            }
+        }
+    }
+
+    /// The step of the search behind one that was taken at an address.
+    fn take_step(&mut self, at: Address, reply: Reply) -> Turn
+        ensures turn { result ≡ Turn.Over }
+        ensures step { control_of self.new ≡ with_step (step_after (control_of self.old).step at.value (heard reply) (admissible self.old.table.mode at.value (row_at at.value (rows self.old.table.rows)))) (control_of self.old) }
+    {
+        let admissible = is_admissible(self.table.mode(), &self.table.rows, at);
+        self.step = self.step.after(at, reply, admissible);
+        Turn::Over
+    }
+
+    /// Activation from an address on.
+    fn activate_from(&self, queues: &Queues, from: u32) -> Turn
+        requires { from ≤ 32 }
+        ensures rest { rest_of result (card_of self.now queues.now) ≡ activate_rest from (card_of self.now queues.now) }
+        ensures few { left_at result ≤ 32 - from }
+        ensures late { before_answer result ≡ false }
+    {
+        for a in from..32 {
+            if let Some(to) = self.activated(Address::low(a)) {
+                return Turn::Activate(to, self.permanent_parameter(to));
+            }
+        }
+        Turn::Over
+    }
+
+    /// The address, where activation enters it.
+    fn activated(&self, at: Address) -> Option<ModuleAddress>
+        ensures { option_map (λ a. a.value) result ≡ (if (row_at at.value (rows self.now.table.rows)).detected && admissible self.now.table.mode at.value (row_at at.value (rows self.now.table.rows)) then Some at.value else None) }
+    {
+        if !self.table.rows.is_detected(at) {
+            return None;
+        }
+        self.admitted(at)
+    }
+
+    /// The address, where it is admissible.
+    fn admitted(&self, at: Address) -> Option<ModuleAddress>
+        ensures { option_map (λ a. a.value) result ≡ (if admissible self.now.table.mode at.value (row_at at.value (rows self.now.table.rows)) then Some at.value else None) }
+    {
+        if !is_admissible(self.table.mode(), &self.table.rows, at) {
+            return None;
+        }
+        ModuleAddress::try_from(at).ok()
+    }
+
+    /// ODI of an address.
+    #[inline(always)]
+    fn output_data(&self, to: ModuleAddress) -> Nibble
+        ensures { result.value ≡ (row_at to.value (rows self.now.table.rows)).odi }
+    {
+        let entry = self.table.rows.entry(Address::from(to));
+        entry.odi
+    }
+
+    /// PP of an address.
+    fn permanent_parameter(&self, to: ModuleAddress) -> Nibble
+        ensures { result.value ≡ (row_at to.value (rows self.now.table.rows)).pp }
+    {
+        let entry = self.table.rows.entry(Address::from(to));
+        entry.pp
+    }
+}

@@ -1,0 +1,24 @@
+-- What is said with one address: what is asked next, and for each reply how it goes on. Every reply may come.
+-- The rules of a cycle are such conversations, one for each part (Exchange, Detection, Activation, Management, Searches); a cycle strings
+-- them together.
+use Rattle.std.specs.Prelude.{ℕ, zero, suc, ◌+◌, Bool, cond, List, slice_set}
+use Rattle.telegrams.specs.Requests.{Asking, Heard}
+use Rattle.records.specs.Rows.{Row, row_at}
+use Rattle.phases.specs.Conversations.{Conversation, ask}
+
+pub data Dialogue (A : Type 0) : Type 0 where
+  comes : A → Dialogue A
+  asks : Asking → (Heard → Dialogue A) → Dialogue A
+  -- the first where this holds, else the second
+  whether : Bool → Dialogue A → Dialogue A → Dialogue A
+
+-- said with address a, and then the conversation goes on
+abbrev pub dialogue_at : {A B : Type 0} → ℕ → Dialogue A → (A → Conversation B) → Conversation B
+dialogue_at a (comes x) f = f x
+dialogue_at a (asks q k) f = ask (record { to = a; asking = q }) (λ h. dialogue_at a (k h) f)
+dialogue_at a (whether b c d) f = cond b (dialogue_at a c f) (dialogue_at a d f)
+
+-- with each of the n addresses from i upward, lowest first: what it comes to is the row there
+unfoldable pub dialogues_from : {B : Type 0} → (ℕ → Row → Dialogue Row) → ℕ → ℕ → List Row → (List Row → Conversation B) → Conversation B
+dialogues_from dialogue zero i rs f = f rs
+dialogues_from dialogue (suc n) i rs f = dialogue_at i (dialogue i (row_at i rs)) (λ r. dialogues_from dialogue n (i + 1) (slice_set rs i r) f)

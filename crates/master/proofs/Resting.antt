@@ -99,6 +99,10 @@ exchange_comes (suc n) a c b sized some = by_activity (row_in_card a c).active r
         let later = rest e in
         (skipped active_there exchange_asking manage_rest a c (omega (arith, sized)) is ∙ later.0, omega (arith, later.1))
 
+-- nothing is exchanged with address 0
+pub exchange_first : (a : ℕ) (c : Card) → a ≡ 0 → (row_in_card 0 c).active ≡ false → exchange_rest (a + 1) c ≡ exchange_rest 0 c
+exchange_first a c none idle = ap (λ (k : ℕ). exchange_rest (k + 1) c) none ∙ sym (skipped active_there exchange_asking manage_rest 0 c (omega arith) idle)
+
 pub exchange_over : (a : ℕ) (c : Card) → a ≤ 32 → first_active a c.control.rows ≡ None → exchange_rest a c ≡ manage_rest c
 exchange_over a c inside none = exchange_ends (32 - a) a c (omega (arith, inside)) none
 

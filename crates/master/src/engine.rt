@@ -117,7 +117,7 @@ impl Master {
                 self.phase = Phase::Normal;
                 self.activate_from(queues, 0)
             }
-            Phase::Normal => self.exchange_from(queues, 0),
+            Phase::Normal => self.exchange_behind(queues, Address::low(0)),
         }
     }
 
@@ -136,10 +136,11 @@ impl Master {
         if cycle.turn == Turn::Over {
             return;
         }
+        let requests = cycle.requests + 1;
         let turn = self.turn_after(queues, cycle.turn, reply);
         *cycle = Cycle {
             phase: cycle.phase,
-            requests: cycle.requests + 1,
+            requests,
             turn,
         };
     }
@@ -171,7 +172,7 @@ impl Master {
             }
             Turn::Exchange(to, _) => {
                 hear_data(rows, Address::from(to), reply);
-                self.exchange_from(queues, u32::from(to.get()) + 1)
+                self.exchange_behind(queues, Address::from(to))
             }
             Turn::Manage(order) => {
                 let result = hear_order(rows, order, reply);
@@ -193,22 +194,22 @@ impl Master {
         }
     }
 
-    /// Data exchange from an address on, or else what follows it.
+    /// Data exchange behind an address, or else what follows it.
     #[inline(always)]
-    fn exchange_from(&mut self, queues: &mut Queues, from: u32) -> Turn
-        requires { from ≤ 32 }
-        ensures rest { rest_of result (card_of self.new queues.new) ≡ exchange_rest from (card_of self.old queues.old) }
-        ensures few { left_at result ≤ 34 - from }
+    fn exchange_behind(&mut self, queues: &mut Queues, at: Address) -> Turn
+        ensures rest { rest_of result (card_of self.new queues.new) ≡ exchange_rest (at.value + 1) (card_of self.old queues.old) }
+        ensures few { left_at result ≤ 33 - at.value }
         ensures served { Served queues.old queues.new }
         ensures early { before_answer result ≡ true → queues.new ≡ queues.old }
     {
-        if let Some(to) = self.table.rows.first_active(from) {
+        if let Some(to) = self.table.rows.first_active_behind(at) {
             return Turn::Exchange(to, self.output_data(to));
         }
         self.manage_next(queues)
     }
 
     /// Management, or else what follows it. An order for an address that is not active ends at once.
+    #[inline(always)]
     fn manage_next(&mut self, queues: &mut Queues) -> Turn
         ensures rest { rest_of result (card_of self.new queues.new) ≡ manage_rest (card_of self.old queues.old) }
         ensures few { left_at result ≤ 2 }
@@ -293,7 +294,6 @@ impl Master {
     }
 
     /// ODI of an address.
-    #[inline(always)]
     fn output_data(&self, to: ModuleAddress) -> Nibble
         ensures { result.value ≡ (row_at to.value (rows self.now.table.rows)).odi }
     {

@@ -1,84 +1,148 @@
--- The first active address from one on: the lowest bit of LAS from there.
-use Rattle.std.proofs.Common.{◌≡◌, ℕ, zero, suc, ◌+◌, ◌-◌, ◌*◌, ◌/◌, ◌%◌, ◌^◌, ◌<◌, ◌≤◌, Bool, true, false, cond, eqb, List, Some, None, Option, sym, refl, ap, ◌∙◌, subst, ⊎_elim, arith}
-use Rattle.std.specs.Int.{trailing_zeros, bit_at, w32}
-use Rattle.std.proofs.lemmas.Nat.Bits.{bit_at-trailing_zeros, bit_at-zero, bit_at_above, bit_at_lowest}
-use Rattle.std.proofs.Math.Nat.{div-div-eq-div-mul, div-le_self}
-use Rattle.std.proofs.lemmas.Nat.{pow-add}
-use Rattle.std.proofs.lemmas.Bool.{cond-false, cond-true, ne_eqb, eq-eqb, cases_lt}
+-- The first active address from one on, the lowest of LAS moved down to there; and the first inactive one, the lowest outside LAS turned down to there.
+use Rattle.std.proofs.Common.{◌≡◌, ℕ, zero, suc, ◌+◌, ◌-◌, ◌/◌, ◌%◌, ◌^◌, ◌<◌, Bool, true, false, cond, ◌&&◌, ltb, List, Some, None, Option, Ok, Err, Result, sym, refl, ap, ◌∙◌, ⊎_elim, arith}
+use Rattle.std.specs.Int.{w32, rotate_right, trailing_zeros, trailing_ones}
+use Rattle.std.specs.Int.Count.{trailing_of_zero}
+use Rattle.std.proofs.Math.Nat.{div-le_self}
+use Rattle.std.specs.Option.{option_map}
+use Rattle.std.specs.Result.{result_ok}
+use Rattle.std.proofs.lemmas.Bool.{cond-false, cond-true, both_ways, cases_eq, and_right}
+use Rattle.std.proofs.lemmas.Bool.Decides.{nat_tests}
+use Rattle.std.proofs.lemmas.Nat.{shr-shr}
+use Rattle.values.specs.Ranges.{module_address_from}
+use Rattle.values.specs.Refusals.{Outcome, gives, refuses_for, refuses, outcome}
+use Rattle.values.specs.declared.module_address.ModuleAddress.{ModuleAddress}
+use Rattle.values.specs.declared.refusal.Refusal.{Refusal}
 use Rattle.lists.specs.Members.{has}
+use Rattle.lists.proofs.Laws.{has_none, has_inside, has_shifted, has_rotated, Lowest, lowest_in, lowest_out, not_all}
 use Rattle.records.specs.Rows.{Row, row_at}
 use Rattle.records.specs.Records.{rows}
-use Rattle.records.specs.Ahead.{active_within, first_active}
+use Rattle.records.specs.Ahead.{active_within, first_active, inactive_within, first_inactive}
 use Rattle.records.specs.declared.rows.Rows.{Rows}
-use Rattle.records.proofs.Written.{row_is}
+use Rattle.records.proofs.Written.{row_is, zero_inactive}
+
+abbrev active_at : List Row → ℕ → Bool
+active_at rs a = (row_at a rs).active
 
 -- none of the n from a on is active
-pub none_within : (n a : ℕ) (rs : List Row) → ((k : ℕ) → k < n → (row_at (a + k) rs).active ≡ false) → active_within n a rs ≡ None
+none_within : (n a : ℕ) (rs : List Row) → ((k : ℕ) → k < n → active_at rs (a + k) ≡ false) → active_within n a rs ≡ None
 unfolding active_within
 none_within zero a rs none = refl
 none_within (suc n) a rs none =
-    cond-false _ _ _ (ap (λ (k : ℕ). (row_at k rs).active) (omega arith) ∙ none 0 (omega arith))
-    ∙ none_within n (a + 1) rs (λ k h. ap (λ (m : ℕ). (row_at m rs).active) (omega arith) ∙ none (k + 1) (omega arith))
+    cond-false _ _ _ (ap (active_at rs) (omega arith) ∙ none 0 (omega arith))
+    ∙ none_within n (a + 1) rs (λ k h. ap (active_at rs) (omega arith) ∙ none (k + 1) (omega arith))
 
--- the first is z behind a
-pub first_within : (n a z : ℕ) (rs : List Row) → z < n → ((k : ℕ) → k < z → (row_at (a + k) rs).active ≡ false) → (row_at (a + z) rs).active ≡ true → active_within n a rs ≡ Some (a + z)
+-- the first active one is z behind a
+active_behind : (n a z : ℕ) (rs : List Row) → z < n → ((k : ℕ) → k < z → active_at rs (a + k) ≡ false) → active_at rs (a + z) ≡ true → active_within n a rs ≡ Some (a + z)
 unfolding active_within
-first_within zero a z rs inside none here = absurd (omega arith)
-first_within (suc n) a zero rs inside none here =
-    cond-true _ _ _ (ap (λ (k : ℕ). (row_at k rs).active) (omega arith) ∙ here) ∙ ap Some (omega arith)
-first_within (suc n) a (suc z) rs inside none here =
-    cond-false _ _ _ (ap (λ (k : ℕ). (row_at k rs).active) (omega arith) ∙ none 0 (omega arith))
-    ∙ first_within n (a + 1) z rs (omega arith) (λ k h. ap (λ (m : ℕ). (row_at m rs).active) (omega arith) ∙ none (k + 1) (omega arith)) (ap (λ (m : ℕ). (row_at m rs).active) (omega arith) ∙ here)
+active_behind zero a z rs inside none here = absurd (omega arith)
+active_behind (suc n) a zero rs inside none here = cond-true _ _ _ (ap (active_at rs) (omega arith) ∙ here) ∙ ap Some (omega arith)
+active_behind (suc n) a (suc z) rs inside none here =
+    cond-false _ _ _ (ap (active_at rs) (omega arith) ∙ none 0 (omega arith))
+    ∙ active_behind n (a + 1) z rs (omega arith) (λ k h. ap (active_at rs) (omega arith) ∙ none (k + 1) (omega arith)) (ap (active_at rs) (omega arith) ∙ here)
     ∙ ap Some (omega arith)
 
-bit_behind : (n a k : ℕ) → bit_at (n / 2 ^ a) k ≡ bit_at n (a + k)
-bit_behind n a k = ap (λ (m : ℕ). m % 2) (div-div-eq-div-mul n (2 ^ a) (2 ^ k) ∙ ap (λ (m : ℕ). n / m) (sym (pow-add 2 a k)))
+-- the first inactive one is z behind a, where 0 follows 31
+inactive_behind : (n a z : ℕ) (rs : List Row) → z < n → a < 32 → ((k : ℕ) → k < z → active_at rs ((a + k) % 32) ≡ true) → active_at rs ((a + z) % 32) ≡ false → inactive_within n a rs ≡ (a + z) % 32
+unfolding inactive_within
+inactive_behind zero a z rs inside low passed here = absurd (omega arith)
+inactive_behind (suc n) a zero rs inside low passed here = cond-false _ _ _ (ap (active_at rs) (omega arith) ∙ here) ∙ omega arith
+inactive_behind (suc n) a (suc z) rs inside low passed here =
+    cond-true _ _ _ (ap (active_at rs) (omega arith) ∙ passed 0 (omega arith))
+    ∙ inactive_behind n ((a + 1) % 32) z rs (omega arith) (omega arith) (λ k h. ap (active_at rs) (omega arith) ∙ passed (k + 1) (omega arith)) (ap (active_at rs) (omega arith) ∙ here)
+    ∙ omega arith
 
--- no bit is set behind the last
-bit_inside : (n i : ℕ) → n < 2 ^ 32 → bit_at n i ≡ 1 → i < 32
-bit_inside n i small set = ⊎_elim (λ h. h) (λ h. absurd (omega (arith, set, bit_at_above n 32 i small h))) (cases_lt i 32)
+-- the module address of this number, where it is one's
+abbrev pub module_address : ℕ → Option ℕ
+module_address n = cond (ltb 0 n && ltb n 32) (Some n) None
+
+within : (n : ℕ) → 0 < n → n < 32 → (ltb 0 n && ltb n 32) ≡ true
+within n low high = grind (arith, nat_tests)
+
+outside : (n : ℕ) → 31 < n → (ltb 0 n && ltb n 32) ≡ false
+outside n high = grind (arith, nat_tests)
+
+given : Outcome ℕ → Option ℕ
+given (gives n) = Some n
+given (refuses_for e c) = None
+
+tested : (b : Bool) (n : ℕ) → given (cond b (gives n) (refuses 0x8381)) ≡ cond b (Some n) None
+unfolding given
+tested true n = refl
+tested false n = refl
+
+pub made : (n : ℕ) (m : Result ModuleAddress Refusal) → outcome (λ x. x.value) m ≡ module_address_from n → option_map (λ x. x.value) (result_ok m) ≡ module_address n
+unfolding given
+made n (Ok x) is = ap given is ∙ tested (ltb 0 n && ltb n 32) n
+made n (Err e) is = ap given is ∙ tested (ltb 0 n && ltb n 32) n
+
+active_above : (r : Rows) (a : ℕ) → active_at (rows r) a ≡ true → 0 < a
+active_above r zero e = absurd (both_ways (active_at (rows r) 0) (zero_inactive r) e)
+active_above r (suc a) e = omega arith
 
 -- LAS is w
-module _ (r : Rows) (w a : ℕ) (is : w ≡ r.lists.las) (small : w < 2 ^ 32) (inside : a < 32) where
+module _ (r : Rows) (w a : ℕ) (is : w ≡ r.lists.las) (small : w < 2 ^ 32) where
+  activity : (k : ℕ) → k < 32 → active_at (rows r) k ≡ has w k
+  activity k h = ap (λ (x : Row). x.active) (row_is r.lists.lds r.lists.las r.lps r.entries k h) ∙ ap (λ (n : ℕ). has n k) (sym is)
+
   abbrev ahead : ℕ
   ahead = w / 2 ^ a
 
-  small_ahead : ahead < 2 ^ 32
-  small_ahead = omega (arith, div-le_self w (2 ^ a))
+  activity_ahead : (k : ℕ) → a + k < 32 → active_at (rows r) (a + k) ≡ has ahead k
+  activity_ahead k h = activity (a + k) h ∙ sym (has_shifted w a k)
 
-  activity : (k : ℕ) → a + k < 32 → (row_at (a + k) (rows r)).active ≡ eqb (bit_at ahead k) 1
-  activity k h =
-      ap (λ (x : Row). x.active) (row_is r.lists.lds r.lists.las r.lps r.entries (a + k) h)
-      ∙ ap (λ (n : ℕ). eqb (bit_at n (a + k)) 1) (sym is) ∙ ap (λ (n : ℕ). eqb n 1) (sym (bit_behind w a k))
-
-  pub none_ahead : ahead ≡ 0 → first_active a (rows r) ≡ None
-  none_ahead e =
-      none_within (32 - a) a (rows r) (λ k h. activity k (omega arith) ∙ ap (λ (n : ℕ). eqb (bit_at n k) 1) e ∙ ap (λ (n : ℕ). eqb n 1) (bit_at-zero k))
+  none_ahead : ahead ≡ 0 → first_active a (rows r) ≡ None
+  none_ahead e = none_within (32 - a) a (rows r) (λ k h. activity_ahead k (omega arith) ∙ ap (λ (n : ℕ). has n k) e ∙ has_none k)
 
   module _ (some : ahead ≡ 0 → ⊥) where
     abbrev z : ℕ
     z = trailing_zeros w32 ahead
 
-    set : bit_at ahead z ≡ 1
-    set = (bit_at-trailing_zeros w32 ahead (omega (arith, some)) small_ahead).1
+    lowest : Lowest true ahead z
+    lowest = lowest_in ahead (omega (arith, some)) (omega (arith, div-le_self w (2 ^ a)))
 
-    none_before : (k : ℕ) → k < z → bit_at ahead k ≡ 0
-    none_before = (bit_at-trailing_zeros w32 ahead (omega (arith, some)) small_ahead).2
+    behind : a + z < 32
+    behind = has_inside w (a + z) small (sym (has_shifted w a z) ∙ lowest.here)
 
-    pub behind : a + z < 32
-    behind = bit_inside w (a + z) small (sym (bit_behind w a z) ∙ set)
+    active_there : active_at (rows r) (a + z) ≡ true
+    active_there = activity_ahead z behind ∙ lowest.here
 
-    pub some_ahead : first_active a (rows r) ≡ Some (a + z)
-    some_ahead =
-        first_within (32 - a) a z (rows r) (omega (arith, behind))
-        (λ k h. activity k (omega (arith, behind)) ∙ ap (λ (n : ℕ). eqb n 1) (none_before k h))
-        (activity z behind ∙ ap (λ (n : ℕ). eqb n 1) set)
+    some_ahead : first_active a (rows r) ≡ Some (a + z)
+    some_ahead = active_behind (32 - a) a z (rows r) (omega (arith, behind)) (λ k h. activity_ahead k (omega (arith, behind)) ∙ lowest.before k h) active_there
 
-    pub one_ahead : 1 ≤ a + z
-    one_ahead =
-        ⊎_elim
-        (λ here. absurd (omega (arith, r.lists.ok.1, is, bit_at_lowest w, sym (bit_behind w a z), set, ap (bit_at w) (zero_there here))))
-        (λ there. there) (cases_lt (a + z) 1)
-      where
-        zero_there : a + z < 1 → a + z ≡ 0
-        zero_there here = omega arith
+    one_ahead : 0 < a + z
+    one_ahead = active_above r (a + z) active_there
+
+  -- the number of zeros below its lowest one leads there, or past the last address where it has none
+  first_ahead : first_active a (rows r) ≡ module_address (a + trailing_zeros w32 ahead)
+  first_ahead = ⊎_elim nothing something (cases_eq ahead 0)
+    where
+      nothing : ahead ≡ 0 → first_active a (rows r) ≡ module_address (a + trailing_zeros w32 ahead)
+      nothing e =
+          let beyond : trailing_zeros w32 ahead ≡ 32 = ap (trailing_zeros w32) e ∙ trailing_of_zero 32 in
+          none_ahead e ∙ sym (cond-false _ _ _ (outside (a + trailing_zeros w32 ahead) (omega (arith, beyond))))
+
+      something : (ahead ≡ 0 → ⊥) → first_active a (rows r) ≡ module_address (a + trailing_zeros w32 ahead)
+      something some = some_ahead some ∙ sym (cond-true _ _ _ (within (a + trailing_zeros w32 ahead) (one_ahead some) (behind some)))
+
+  module _ (inside : a < 32) (turned : ℕ) (by : turned ≡ rotate_right w32 w a) (fits : turned < 2 ^ 32) where
+    activity_turned : (k : ℕ) → k < 32 → active_at (rows r) ((a + k) % 32) ≡ has turned k
+    activity_turned k h = activity ((a + k) % 32) (omega arith) ∙ sym (has_rotated w a k small inside h) ∙ ap (λ (n : ℕ). has n k) (sym by)
+
+    zero_turned : has turned ((32 - a) % 32) ≡ false
+    zero_turned = sym (activity_turned ((32 - a) % 32) (omega arith)) ∙ ap (active_at (rows r)) (omega arith) ∙ zero_inactive r
+
+    free : Lowest false turned (trailing_ones w32 turned)
+    free = lowest_out turned (not_all turned ((32 - a) % 32) fits (omega arith) zero_turned)
+
+    pub first_free : first_inactive a (rows r) ≡ (a + trailing_ones w32 turned) % 32
+    first_free =
+        inactive_behind 32 a (trailing_ones w32 turned) (rows r) free.inside inside
+        (λ k h. activity_turned k (omega (arith, free.inside)) ∙ free.before k h)
+        (activity_turned (trailing_ones w32 turned) free.inside ∙ free.here)
+
+-- moved down to an address, and by one more
+pub first_behind : (r : Rows) (w a i j : ℕ) → w ≡ r.lists.las → w < 2 ^ 32 → i ≡ a → j ≡ a → module_address (j + 1 + trailing_zeros w32 (w / 2 ^ i / 2 ^ 1)) ≡ first_active (a + 1) (rows r)
+first_behind r w a i j is small down up =
+    ap (λ (k : ℕ). module_address (j + 1 + trailing_zeros w32 k)) (ap (λ (k : ℕ). w / 2 ^ k / 2 ^ 1) down ∙ shr-shr w a 1)
+    ∙ ap (λ (k : ℕ). module_address (k + 1 + trailing_zeros w32 (w / 2 ^ (a + 1)))) up
+    ∙ sym (first_ahead r w (a + 1) is small)

@@ -33,10 +33,6 @@ impl Record {
         }
     }
 
-    pub fn restored(mode: Mode, rows: Rows) -> Record {
-        Record { mode, rows }
-    }
-
     pub fn mode(&self) -> Mode
         ensures { result ≡ self.now.mode }
     {

@@ -1,8 +1,8 @@
-ghost use Rattle.std.specs.Prelude.{◌≡◌, ◌≤◌, slice_set, option_map};
+ghost use Rattle.std.specs.Prelude.{◌≡◌, ◌+◌, slice_set, option_map};
 ghost use Rattle.values.specs.Refusals.{outcome};
 ghost use Rattle.records.specs.Rows.{row_at, new_rows, outputs_outcome, outputs_after, inputs_outcome, agreeing, config_ok};
 ghost use Rattle.records.specs.Records.{pair_of, rows, with_entry, detected_with, activated_with, forgotten_with};
-ghost use Rattle.records.specs.Ahead.{first_active};
+ghost use Rattle.records.specs.Ahead.{first_active, first_inactive};
 ghost use Rattle.records.specs.Edits.{planned, copied, edited, taking_over};
 
 use super::entry::{Codes, Entry};
@@ -43,27 +43,6 @@ impl Rows {
             lists: Lists::new(),
             lps: 0,
             entries: [entry; ADDRESSES],
-        }
-    }
-
-    /// Rows that were kept elsewhere; LAS is taken within LDS.
-    pub fn restored(lds: u32, las: u32, lps: u32, entries: [Entry; ADDRESSES]) -> Rows {
-        let mut lists = Lists::new();
-        for a in 0..32u32 {
-            let at = Address::low(a);
-            if contains(lds, at) {
-                lists.detect(at);
-            }
-            if let Ok(to) = ModuleAddress::try_from(at) {
-                if contains(las, at) {
-                    lists.activate(to);
-                }
-            }
-        }
-        Rows {
-            lists,
-            lps,
-            entries,
         }
     }
 
@@ -147,29 +126,22 @@ impl Rows {
         contains(self.lists.las(), address)
     }
 
-    /// The first active address from this one on.
-    pub fn first_active(&self, from: u32) -> Option<ModuleAddress>
-        requires { from ≤ 32 }
-        ensures { option_map (λ a. a.value) result ≡ first_active from (rows self.now) }
+    /// The first active address behind this one, up to 31.
+    #[inline]
+    pub fn first_active_behind(&self, at: Address) -> Option<ModuleAddress>
+        ensures { option_map (λ a. a.value) result ≡ first_active (at.value + 1) (rows self.now) }
     {
-        if from > 31 {
-            return None;
-        }
-        let ahead = self.lists.las() >> from;
-        if ahead == 0 {
-            return None;
-        }
-        Some(ModuleAddress::of(from + ahead.trailing_zeros()))
+        let ahead = self.lists.las() >> u32::from(at) >> 1;
+        ModuleAddress::try_from(u32::from(at) + 1 + ahead.trailing_zeros()).ok()
     }
 
-    /// The first address from this one on, 0 behind 31, that is not active.
-    pub fn first_inactive(&self, from: Address) -> Address {
-        let passed = self
-            .lists
-            .las()
-            .rotate_right(u32::from(from))
-            .trailing_ones();
-        Address::low(u32::from(from) + passed)
+    /// The first address from this one on, 0 following 31, that is not active.
+    #[inline]
+    pub fn first_inactive(&self, from: Address) -> Address
+        ensures { result.value ≡ first_inactive from.value (rows self.now) }
+    {
+        let turned = self.lists.las().rotate_right(u32::from(from));
+        Address::low(u32::from(from) + turned.trailing_ones())
     }
 
     pub fn is_projected(&self, address: Address) -> bool

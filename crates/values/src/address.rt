@@ -23,6 +23,6 @@ impl From<ModuleAddress> for Address {
     ghost from_gives = { λ a r. r.value ≡ a.value };
 
     fn from(address: ModuleAddress) -> Address {
-        Address::low(u32::from(address.get()))
+        Address::of(address.get())
     }
 }

@@ -21,15 +21,6 @@ impl ModuleAddress {
         }
     }
 
-    /// The address of this number.
-    pub fn of(n: u32) -> ModuleAddress
-        requires above { 0 < n }
-        requires below { n < 32 }
-        ensures { result.value ≡ n }
-    {
-        ModuleAddress { value: n as u8 }
-    }
-
     pub fn get(self) -> u8
         ensures { result ≡ self.value }
     {

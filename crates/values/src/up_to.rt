@@ -29,6 +29,14 @@ impl<const MAX: u8> UpTo<MAX> {
         }
     }
 
+    /// The number, which is no greater than `MAX`.
+    pub(crate) fn of(n: u8) -> UpTo<MAX>
+        requires { n < MAX + 1 }
+        ensures { result.value ≡ n }
+    {
+        UpTo { value: n }
+    }
+
     pub fn get(self) -> u8
         ensures { result ≡ self.entry.value }
     {

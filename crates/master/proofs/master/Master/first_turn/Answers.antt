@@ -2,7 +2,8 @@ use Rattle.std.proofs.Common.{◌≡◌, sym, ap, ◌∙◌, arith}
 use Rattle.phases.specs.Conversations.{done}
 use Rattle.master.specs.Cycles.{Control, card_of, with_control}
 use Rattle.master.specs.Cycling.{cycle_conversation}
-use Rattle.master.proofs.Resting.{detect_at}
+use Rattle.records.proofs.Written.{zero_inactive}
+use Rattle.master.proofs.Resting.{detect_at, exchange_first}
 use Rattle.master.proofs.master.Master.first_turn.Goals as goal
 
 pub returns-in-Offline-clause-rest : goal.returns-in-Offline-clause-rest
@@ -15,7 +16,8 @@ returns-in-Detection-clause-rest c = rw c.in-Detection.is (detect_at 0 c.low.res
 
 pub returns-in-Normal-clause-rest : goal.returns-in-Normal-clause-rest
 unfolding cycle_conversation
-returns-in-Normal-clause-rest c = rw c.in-Normal.is c.exchange_from.ensures.rest
+returns-in-Normal-clause-rest c =
+    rw c.in-Normal.is (c.exchange_behind.ensures.rest ∙ exchange_first c.low-in-Normal.result.value (card_of c.args.self.now c.args.queues.now) (omega arith) (zero_inactive c.args.self.now.table.rows))
 
 pub returns-in-Activation-clause-rest : goal.returns-in-Activation-clause-rest
 unfolding cycle_conversation

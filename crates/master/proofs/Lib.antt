@@ -1,5 +1,6 @@
 pub mod Visiting
 pub mod Parts
 pub mod Whole
+pub mod AnyReplies
 pub mod Resting
 pub mod Turning

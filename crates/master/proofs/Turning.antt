@@ -15,7 +15,7 @@ use Rattle.values.specs.Tables.{table}
 use Rattle.values.proofs.Tables.{length-table}
 use Rattle.phases.specs.Conversations.{Conversation, done, ask, question, Course, on_line}
 use Rattle.std.proofs.lemmas.Option.{none-some}
-use Rattle.master.specs.Turns.{rest_of}
+use Rattle.master.specs.Turns.{rest_of, Asks}
 use Rattle.master.specs.declared.turn.Turn.{Turn}
 use Rattle.master.specs.declared.turn.Turn.TheVariants.{Over, DetectIo, DetectId, Activate, Exchange, Manage, Seek, Name, Enter}
 use Rattle.search.proofs.Picking.{taken_inside}
@@ -102,3 +102,7 @@ came_done t c x none is = ap (value_or c) (sym (over_turn t c none) ∙ is)
 pub served_on : (b : Bool) {p q r : Queues} → Served p q → Served q r → (b ≡ true → q ≡ p) → (b ≡ false → r ≡ q) → Served p r
 served_on true {p} {q} {r} before now same kept = subst (λ (x : Queues). Served x r) (same refl) now
 served_on false {p} {q} {r} before now same kept = subst (λ (x : Queues). Served p x) (sym (kept refl)) before
+
+-- where the cycle is over, nothing is asked
+pub not_over : {X : Type 0} {t : Turn} → t ≡ Over → Card → Asks t → X
+not_over over d asks = absurd (asks d (ap (λ (u : Turn). question (rest_of u d)) over))

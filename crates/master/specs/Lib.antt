@@ -4,3 +4,4 @@ pub mod Listings
 pub mod Cycles
 pub mod Cycling
 pub mod Turns
+pub mod AnyReplies

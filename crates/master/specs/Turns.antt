@@ -1,20 +1,23 @@
 -- What is left of a cycle at each turn: a conversation, for every reply that may come. It speaks of the master as it is at that turn.
 -- A reader compares each turn with the part of a cycle (Cycling.antt) that it stands in: what is asked there, what the reply makes of the row,
 -- and the rest of that part.
-use Rattle.std.specs.Prelude.{ℕ, Bool, true, false, ◌+◌, ◌-◌, ◌*◌, cond, nat_lt, length, List, [], ◌∷◌, ◌++◌, drop}
+use Rattle.std.specs.Prelude.{◌≡◌, ℕ, Bool, true, false, ◌+◌, ◌-◌, ◌*◌, cond, nat_lt, length, List, [], ◌∷◌, ◌++◌, drop, None}
 use Rattle.telegrams.specs.Requests.{Sent, Heard, silence, nibble, data_exchange, write_parameter, read_io, read_id}
 use Rattle.records.specs.Rows.{Row}
 use Rattle.phases.specs.Exchange.{exchanged, exchange_dialogue}
 use Rattle.phases.specs.Detection.{name_after, detect_dialogue}
 use Rattle.phases.specs.Activation.{admissible, with_pi, entered, activate_dialogue}
-use Rattle.phases.specs.Conversations.{Conversation, done}
+use Rattle.phases.specs.Conversations.{Conversation, done, question}
 use Rattle.phases.specs.Dialogues.{Dialogue, comes, asks, dialogue_at}
 use Rattle.orders.specs.Orders.{ordered, Ending, replied}
 use Rattle.orders.specs.Management.{Ended, managed}
+use Rattle.orders.specs.Queues.{Served}
+use Rattle.orders.specs.declared.pair.Queues.{Queues}
 use Rattle.search.specs.Steps.{step_after}
 use Rattle.search.specs.Searches.{Stepped, sought, called}
-use Rattle.master.specs.Cycles.{Card}
+use Rattle.master.specs.Cycles.{Card, card_of}
 use Rattle.master.specs.Cycling.{row_in_card, with_card_row, with_each_of, managing, searching, to_step}
+use Rattle.master.specs.declared.master.Master.{Master}
 use Rattle.master.specs.declared.turn.Turn.{Turn}
 use Rattle.master.specs.declared.turn.Turn.TheVariants.{Over, DetectIo, DetectId, Activate, Exchange, Manage, Seek, Name, Enter}
 
@@ -77,6 +80,17 @@ rest_of (Enter a n) c =
     dialogue_at a.value (asks (write_parameter n.value) (λ h. comes (record { row = entered_with n.value (row_in_card a.value c) h; deciding = silence })))
     (step_rest a.value c)
 
+-- what is left for a master with its queues
+abbrev pub left : Turn → Master → Queues → Conversation Card
+left t m q = rest_of t (card_of m q)
+
+-- at this turn something is asked, or nothing, whatever has become of the master
+abbrev pub Asks : Turn → Type 0
+Asks t = (c : Card) → question (rest_of t c) ≡ None → ⊥
+
+abbrev pub AsksNothing : Turn → Type 0
+AsksNothing t = (c : Card) → question (rest_of t c) ≡ None
+
 -- how many requests are left at most
 abbrev pub left_at : Turn → ℕ
 left_at Over = 0
@@ -100,3 +114,10 @@ before_answer (Manage o) = true
 before_answer (Seek a) = false
 before_answer (Name a n) = false
 before_answer (Enter a n) = false
+
+-- The queues are served once in a cycle: from one turn to the next they stay as they are, but where an order ends
+
+pub record ServedBetween (t t' : Turn) (q q' : Queues) : Type 0 where
+  pub served : Served q q'
+  pub early : before_answer t' ≡ true → (q' ≡ q) × (before_answer t ≡ true)
+  pub late : before_answer t ≡ false → q' ≡ q

@@ -8,7 +8,8 @@ ghost use Rattle.records.specs.Records.{rows};
 ghost use Rattle.search.specs.Steps.{step_after};
 ghost use Rattle.master.specs.Cycles.{Card, control_of, with_step, card_of};
 ghost use Rattle.master.specs.Cycling.{cycle_conversation, searching};
-ghost use Rattle.master.specs.Turns.{rest_of, left_at, manage_rest, exchange_rest, detect_rest, activate_rest, before_answer};
+ghost use Rattle.master.specs.AnyReplies.{AsksOnAnyWire};
+ghost use Rattle.master.specs.Turns.{rest_of, left, Asks, AsksNothing, left_at, manage_rest, exchange_rest, detect_rest, activate_rest, before_answer, ServedBetween};
 
 use super::cycle::Report;
 use super::master::{Master, Phase};
@@ -85,7 +86,9 @@ impl Master {
     pub fn begin(&mut self, queues: &mut Queues, powered: bool) -> Cycle
         ensures phase { result.phase ≡ (if self.old.offline || not powered then Phase.Offline else self.old.phase) }
         ensures none { result.requests ≡ 0 }
-        ensures rest { rest_of result.turn (card_of self.new queues.new) ≡ cycle_conversation result.phase powered (card_of self.old queues.old) }
+        ensures rest { left result.turn self.new queues.new ≡ cycle_conversation result.phase powered (card_of self.old queues.old) }
+        ensures any_wire { AsksOnAnyWire result.phase (rows self.old.table.rows) (left result.turn self.new queues.new) }
+        ensures few { result.phase ≡ Phase.Normal → left_at result.turn ≤ 33 }
         ensures served { Served queues.old queues.new }
         ensures early { before_answer result.turn ≡ true → queues.new ≡ queues.old }
     {
@@ -99,8 +102,9 @@ impl Master {
     }
 
     fn first_turn(&mut self, queues: &mut Queues, phase: Phase, powered: bool) -> Turn
-        ensures rest { rest_of result (card_of self.new queues.new) ≡ cycle_conversation phase powered (card_of self.old queues.old) }
+        ensures rest { left result self.new queues.new ≡ cycle_conversation phase powered (card_of self.old queues.old) }
         ensures few { left_at result ≤ 64 }
+        ensures normal { phase ≡ Phase.Normal → left_at result ≤ 33 }
         ensures served { Served queues.old queues.new }
         ensures early { before_answer result ≡ true → queues.new ≡ queues.old }
     {
@@ -124,34 +128,33 @@ impl Master {
     /// Takes the reply to the request that was next. Where none was, nothing changes.
     #[inline(always)]
     pub fn hear(&mut self, queues: &mut Queues, cycle: &mut Cycle, reply: Reply)
-        ensures goes_on { rest_of cycle.new.turn (card_of self.new queues.new) ≡ when_heard (heard reply) (rest_of cycle.old.turn (card_of self.old queues.old)) }
-        ensures nearer { (question (rest_of cycle.old.turn (card_of self.old queues.old)) ≡ None → ⊥) → left_at cycle.new.turn < left_at cycle.old.turn }
-        ensures counted { (question (rest_of cycle.old.turn (card_of self.old queues.old)) ≡ None → ⊥) → cycle.new.requests ≡ cycle.old.requests + 1 }
-        ensures unasked { question (rest_of cycle.old.turn (card_of self.old queues.old)) ≡ None → (self.new ≡ self.old) × (queues.new ≡ queues.old) × (cycle.new ≡ cycle.old) }
+        ensures goes_on { left cycle.new.turn self.new queues.new ≡ when_heard (heard reply) (left cycle.old.turn self.old queues.old) }
+        ensures nearer { Asks cycle.old.turn → left_at cycle.new.turn < left_at cycle.old.turn }
+        ensures counted { Asks cycle.old.turn → cycle.new.requests ≡ cycle.old.requests + 1 }
+        ensures same_master { AsksNothing cycle.old.turn → self.new ≡ self.old }
+        ensures same_queues { AsksNothing cycle.old.turn → queues.new ≡ queues.old }
+        ensures same_cycle { AsksNothing cycle.old.turn → cycle.new ≡ cycle.old }
         ensures phase { cycle.new.phase ≡ cycle.old.phase }
-        ensures served { Served queues.old queues.new }
-        ensures early { before_answer cycle.new.turn ≡ true → (queues.new ≡ queues.old) × (before_answer cycle.old.turn ≡ true) }
-        ensures late { before_answer cycle.old.turn ≡ false → queues.new ≡ queues.old }
+        ensures served { ServedBetween cycle.old.turn cycle.new.turn queues.old queues.new }
     {
-        if cycle.turn == Turn::Over {
-            return;
+        match cycle.turn {
+            Turn::Over => {}
+            turn => {
+                let requests = cycle.requests + 1;
+                *cycle = Cycle {
+                    phase: cycle.phase,
+                    requests,
+                    turn: self.turn_after(queues, turn, reply),
+                };
+            }
         }
-        let requests = cycle.requests + 1;
-        let turn = self.turn_after(queues, cycle.turn, reply);
-        *cycle = Cycle {
-            phase: cycle.phase,
-            requests,
-            turn,
-        };
     }
 
     #[inline(always)]
     fn turn_after(&mut self, queues: &mut Queues, turn: Turn, reply: Reply) -> Turn
-        ensures rest { rest_of result (card_of self.new queues.new) ≡ when_heard (heard reply) (rest_of turn (card_of self.old queues.old)) }
+        ensures rest { left result self.new queues.new ≡ when_heard (heard reply) (left turn self.old queues.old) }
         ensures nearer { (turn ≡ Turn.Over → ⊥) → left_at result < left_at turn }
-        ensures served { Served queues.old queues.new }
-        ensures early { before_answer result ≡ true → (queues.new ≡ queues.old) × (before_answer turn ≡ true) }
-        ensures late { before_answer turn ≡ false → queues.new ≡ queues.old }
+        ensures served { ServedBetween turn result queues.old queues.new }
     {
         let rows = &mut self.table.rows;
         match turn {
@@ -197,7 +200,7 @@ impl Master {
     /// Data exchange behind an address, or else what follows it.
     #[inline(always)]
     fn exchange_behind(&mut self, queues: &mut Queues, at: Address) -> Turn
-        ensures rest { rest_of result (card_of self.new queues.new) ≡ exchange_rest (at.value + 1) (card_of self.old queues.old) }
+        ensures rest { left result self.new queues.new ≡ exchange_rest (at.value + 1) (card_of self.old queues.old) }
         ensures few { left_at result ≤ 33 - at.value }
         ensures served { Served queues.old queues.new }
         ensures early { before_answer result ≡ true → queues.new ≡ queues.old }
@@ -211,7 +214,7 @@ impl Master {
     /// Management, or else what follows it. An order for an address that is not active ends at once.
     #[inline(always)]
     fn manage_next(&mut self, queues: &mut Queues) -> Turn
-        ensures rest { rest_of result (card_of self.new queues.new) ≡ manage_rest (card_of self.old queues.old) }
+        ensures rest { left result self.new queues.new ≡ manage_rest (card_of self.old queues.old) }
         ensures few { left_at result ≤ 2 }
         ensures served { Served queues.old queues.new }
         ensures early { before_answer result ≡ true → queues.new ≡ queues.old }
@@ -231,7 +234,7 @@ impl Master {
 
     /// The search. To enter an address that is not admissible asks nothing, and is done at once.
     fn search_next(&mut self, queues: &Queues) -> Turn
-        ensures rest { rest_of result (card_of self.new queues.now) ≡ searching (card_of self.old queues.now) }
+        ensures rest { left result self.new queues.now ≡ searching (card_of self.old queues.now) }
         ensures few { left_at result ≤ 1 }
         ensures late { before_answer result ≡ false }
     {
@@ -261,7 +264,7 @@ impl Master {
     /// Activation from an address on.
     fn activate_from(&self, queues: &Queues, from: u32) -> Turn
         requires { from ≤ 32 }
-        ensures rest { rest_of result (card_of self.now queues.now) ≡ activate_rest from (card_of self.now queues.now) }
+        ensures rest { left result self.now queues.now ≡ activate_rest from (card_of self.now queues.now) }
         ensures few { left_at result ≤ 32 - from }
         ensures late { before_answer result ≡ false }
     {

@@ -1,12 +1,12 @@
-use Rattle.std.proofs.Common.{◌≡◌, ◌∙◌, List, None, Option, sym, ap, subst}
+use Rattle.std.proofs.Common.{◌≡◌, ◌∙◌, List, sym, ap, subst}
 use Rattle.std.specs.Prelude.{option_map}
 use Rattle.std.proofs.lemmas.Option.{none-some}
 use Rattle.telegrams.specs.Requests.{Sent, sent}
 use Rattle.lines.specs.Sending.{Sends}
-use Rattle.phases.specs.Conversations.{Course, question}
+use Rattle.phases.specs.Conversations.{Course}
 use Rattle.phases.proofs.Underway.{Underway, heard_on, over}
 use Rattle.master.specs.Cycles.{Card, card_of}
-use Rattle.master.specs.Turns.{rest_of, before_answer}
+use Rattle.master.specs.Turns.{Asks, before_answer}
 use Rattle.master.proofs.Turning.{course_is, turned, came_done, served_on}
 use Rattle.master.proofs.master.Master.cycle.Goals as goal
 
@@ -14,12 +14,12 @@ pub loop-next-preserved : goal.loop-next-preserved
 loop-next-preserved g c =
     let before : Card = card_of c.loop-next.self c.loop-next.queues in
     let asked = ap (option_map sent) (sym c.in-Some.is) ∙ c.loop-next.invariant.is_next before in
-    let was_asked : question (rest_of c.loop-next.cycle.turn before) ≡ None → ⊥ = λ none. none-some _ (sym none ∙ sym asked) in
+    let was_asked : Asks c.loop-next.cycle.turn = λ d none. none-some _ (sym none ∙ sym (c.loop-next.invariant.is_next d) ∙ ap (option_map sent) c.in-Some.is) in
     record {
       powered = c.carry-reply.ensures.power ∙ c.loop-next.invariant.powered;
       phase = c.hear.ensures.phase ∙ c.loop-next.invariant.phase;
-      served = served_on (before_answer c.loop-next.cycle.turn) c.loop-next.invariant.served c.hear.ensures.served c.loop-next.invariant.early c.hear.ensures.late;
-      early = λ e. (c.hear.ensures.early e).0 ∙ c.loop-next.invariant.early (c.hear.ensures.early e).1;
+      served = served_on (before_answer c.loop-next.cycle.turn) c.loop-next.invariant.served c.hear.ensures.served.served c.loop-next.invariant.early c.hear.ensures.served.late;
+      early = λ e. (c.hear.ensures.served.early e).0 ∙ c.loop-next.invariant.early (c.hear.ensures.served.early e).1;
       is_next = c.next-next-in-Some.ensures;
       course =
           heard_on g.L.Line.carried _ _ _ _ _ _ _ _ _ c.loop-next.invariant.course asked c.carry-reply.ensures.carried c.loop-next.invariant.powered c.carry-reply.ensures.reply

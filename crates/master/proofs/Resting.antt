@@ -22,7 +22,8 @@ use Rattle.orders.specs.declared.order.Answer.{Answer}
 use Rattle.orders.specs.declared.pair.Queues.{Queues}
 use Rattle.search.specs.Steps.{step_after}
 use Rattle.master.specs.Cycles.{Control, Card, with_step, with_rows}
-use Rattle.master.specs.Cycling.{row_in_card, with_card_rows, with_card_row, to_step, managing, searching}
+use Rattle.master.specs.Cycling.{row_in_card, with_card_rows, with_card_row, to_step, to_phase, managing, searching}
+use Rattle.master.specs.declared.master.Phase.TheVariants.{Activation, Normal}
 use Rattle.master.specs.Turns.{with_each_from, detect_rest, activate_rest, manage_rest, exchange_rest, entered_with, put_back, manage_turn}
 
 abbrev pub card_with : Control → Queues → Card
@@ -117,7 +118,10 @@ abbrev pub detect_turn : ℕ → Card → Conversation Card
 detect_turn a c = dialogue_at a (detect_dialogue (row_in_card a c)) (λ r. detect_rest (a + 1) (with_card_row a r c))
 
 pub detect_at : (a b : ℕ) (c : Card) → b ≡ a → a < 32 → detect_turn b c ≡ detect_rest a c
-detect_at a b c same inside = ap (λ (k : ℕ). detect_turn k c) same ∙ sym (dialogues_next (λ k. detect_dialogue) (λ d. done d) a c inside)
+detect_at a b c same inside = ap (λ (k : ℕ). detect_turn k c) same ∙ sym (dialogues_next (λ k. detect_dialogue) (λ d. done (to_phase Activation d)) a c inside)
+
+pub detect_end : (a : ℕ) (c : Card) → a ≡ 32 → detect_rest a c ≡ done (to_phase Activation c)
+detect_end a c e = dialogues_end (λ k. detect_dialogue) (λ d. done (to_phase Activation d)) a c e
 
 -- Activation
 
@@ -141,15 +145,15 @@ abbrev entered_at : Mode → ℕ → Row → Bool
 entered_at mode a r = r.detected && admissible mode a r
 
 activate_skip : (a : ℕ) (c : Card) → a < 32 → ((row_in_card a c).detected && admissible c.control.mode a (row_in_card a c)) ≡ false → activate_rest a c ≡ activate_rest (a + 1) c
-activate_skip a c inside off = skipped (entered_at c.control.mode) (λ b. enter_dialogue) (λ d. done d) a c inside off
+activate_skip a c inside off = skipped (entered_at c.control.mode) (λ b. enter_dialogue) (λ d. done (to_phase Normal d)) a c inside off
 
 activate_at : (a n : ℕ) (c : Card) → a < 32 → ((row_in_card a c).detected && admissible c.control.mode a (row_in_card a c)) ≡ true → n ≡ (row_in_card a c).pp → activate_turn n a c ≡ activate_rest a c
 activate_at a n c inside it pp =
     ap (λ (d : Dialogue Row). dialogue_at a d (λ r. activate_rest (a + 1) (with_card_row a r c))) (enter_same n (row_in_card a c) pp)
-    ∙ sym (taken_next (entered_at c.control.mode) (λ b. enter_dialogue) (λ d. done d) a c inside it)
+    ∙ sym (taken_next (entered_at c.control.mode) (λ b. enter_dialogue) (λ d. done (to_phase Normal d)) a c inside it)
 
-pub activate_end : (a : ℕ) (c : Card) → a ≡ 32 → activate_rest a c ≡ done c
-activate_end a c e = dialogues_end (activate_dialogue c.control.mode) (λ d. done d) a c e
+pub activate_end : (a : ℕ) (c : Card) → a ≡ 32 → activate_rest a c ≡ done (to_phase Normal c)
+activate_end a c e = dialogues_end (activate_dialogue c.control.mode) (λ d. done (to_phase Normal d)) a c e
 
 -- Management
 

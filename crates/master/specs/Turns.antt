@@ -16,8 +16,9 @@ use Rattle.orders.specs.declared.pair.Queues.{Queues}
 use Rattle.search.specs.Steps.{step_after}
 use Rattle.search.specs.Searches.{Stepped, sought, called}
 use Rattle.master.specs.Cycles.{Card, card_of}
-use Rattle.master.specs.Cycling.{row_in_card, with_card_row, with_each_of, managing, searching, to_step}
+use Rattle.master.specs.Cycling.{row_in_card, with_card_row, with_each_of, managing, searching, to_step, to_phase}
 use Rattle.master.specs.declared.master.Master.{Master}
+use Rattle.master.specs.declared.master.Phase.TheVariants.{Activation, Normal}
 use Rattle.master.specs.declared.turn.Turn.{Turn}
 use Rattle.master.specs.declared.turn.Turn.TheVariants.{Over, DetectIo, DetectId, Activate, Exchange, Manage, Seek, Name, Enter}
 
@@ -27,10 +28,10 @@ abbrev pub with_each_from : (ℕ → Row → Dialogue Row) → ℕ → Card → 
 with_each_from dialogue a c f = with_each_of (32 - a) a dialogue c f
 
 abbrev pub detect_rest : ℕ → Card → Conversation Card
-detect_rest a c = with_each_from (λ b. detect_dialogue) a c (λ d. done d)
+detect_rest a c = with_each_from (λ b. detect_dialogue) a c (λ d. done (to_phase Activation d))
 
 abbrev pub activate_rest : ℕ → Card → Conversation Card
-activate_rest a c = with_each_from (activate_dialogue c.control.mode) a c (λ d. done d)
+activate_rest a c = with_each_from (activate_dialogue c.control.mode) a c (λ d. done (to_phase Normal d))
 
 abbrev pub manage_rest : Card → Conversation Card
 manage_rest c = managing c.orders c searching

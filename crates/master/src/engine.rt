@@ -66,21 +66,6 @@ impl Cycle {
     }
 }
 
-impl Turn {
-    /// Detection behind an address.
-    fn detect_behind(at: Address) -> Turn
-        ensures rest { (c : Card) → rest_of result c ≡ detect_rest (at.value + 1) c }
-        ensures few { left_at result ≤ 2 * (31 - at.value) }
-        ensures late { before_answer result ≡ false }
-    {
-        if at.get() < 31 {
-            Turn::DetectIo(Address::low(u32::from(at) + 1))
-        } else {
-            Turn::Over
-        }
-    }
-}
-
 impl Master {
     /// Begins a cycle, with power up or not. What asks nothing is done at once.
     pub fn begin(&mut self, queues: &mut Queues, powered: bool) -> Cycle
@@ -113,14 +98,8 @@ impl Master {
                 self.stay_offline(powered);
                 Turn::Over
             }
-            Phase::Detection => {
-                self.phase = Phase::Activation;
-                Turn::DetectIo(Address::low(0))
-            }
-            Phase::Activation => {
-                self.phase = Phase::Normal;
-                self.activate_from(queues, 0)
-            }
+            Phase::Detection => Turn::DetectIo(Address::low(0)),
+            Phase::Activation => self.activate_from(0),
             Phase::Normal => self.exchange_behind(queues, Address::low(0)),
         }
     }
@@ -161,17 +140,17 @@ impl Master {
             Turn::Over => Turn::Over,
             Turn::DetectIo(at) => match reply {
                 Reply::Answer(io) => Turn::DetectId(at, io),
-                Reply::Silence | Reply::Disturbed => Turn::detect_behind(at),
+                Reply::Silence | Reply::Disturbed => self.detect_behind(at),
             },
             Turn::DetectId(at, io) => {
                 if let Reply::Answer(id) = reply {
                     detect_at(rows, at, Codes { io, id });
                 }
-                Turn::detect_behind(at)
+                self.detect_behind(at)
             }
             Turn::Activate(to, pp) => {
                 hear_entered(rows, to, pp, reply);
-                self.activate_from(queues, u32::from(to.get()) + 1)
+                self.activate_from(u32::from(to.get()) + 1)
             }
             Turn::Exchange(to, _) => {
                 hear_data(rows, Address::from(to), reply);
@@ -180,7 +159,7 @@ impl Master {
             Turn::Manage(order) => {
                 let result = hear_order(rows, order, reply);
                 queues.finish(Answer { order, result });
-                self.search_next(queues)
+                self.search_next()
             }
             Turn::Seek(at) => {
                 hear_sought(rows, at, reply);
@@ -220,7 +199,7 @@ impl Master {
         ensures early { before_answer result ≡ true → queues.new ≡ queues.old }
     {
         let Some(order) = queues.next() else {
-            return self.search_next(queues);
+            return self.search_next();
         };
         if self.table.rows.is_active(order.address()) {
             return Turn::Manage(order);
@@ -229,12 +208,12 @@ impl Master {
             order,
             result: Err(Unanswered::NotActive),
         });
-        self.search_next(queues)
+        self.search_next()
     }
 
     /// The search. To enter an address that is not admissible asks nothing, and is done at once.
-    fn search_next(&mut self, queues: &Queues) -> Turn
-        ensures rest { left result self.new queues.now ≡ searching (card_of self.old queues.now) }
+    fn search_next(&mut self) -> Turn
+        ensures rest { (q : Queues) → left result self.new q ≡ searching (card_of self.old q) }
         ensures few { left_at result ≤ 1 }
         ensures late { before_answer result ≡ false }
     {
@@ -261,10 +240,23 @@ impl Master {
         Turn::Over
     }
 
-    /// Activation from an address on.
-    fn activate_from(&self, queues: &Queues, from: u32) -> Turn
+    /// Detection behind an address, or the end of the phase.
+    fn detect_behind(&mut self, at: Address) -> Turn
+        ensures rest { (q : Queues) → left result self.new q ≡ detect_rest (at.value + 1) (card_of self.old q) }
+        ensures few { left_at result ≤ 2 * (31 - at.value) }
+        ensures late { before_answer result ≡ false }
+    {
+        if at.get() < 31 {
+            return Turn::DetectIo(Address::low(u32::from(at) + 1));
+        }
+        self.phase = Phase::Activation;
+        Turn::Over
+    }
+
+    /// Activation from an address on, or the end of the phase.
+    fn activate_from(&mut self, from: u32) -> Turn
         requires { from ≤ 32 }
-        ensures rest { left result self.now queues.now ≡ activate_rest from (card_of self.now queues.now) }
+        ensures rest { (q : Queues) → left result self.new q ≡ activate_rest from (card_of self.old q) }
         ensures few { left_at result ≤ 32 - from }
         ensures late { before_answer result ≡ false }
     {
@@ -273,6 +265,7 @@ impl Master {
                 return Turn::Activate(to, self.permanent_parameter(to));
             }
         }
+        self.phase = Phase::Normal;
         Turn::Over
     }
 

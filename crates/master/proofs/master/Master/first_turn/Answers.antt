@@ -12,7 +12,7 @@ returns-in-Offline-clause-rest c = rw c.in-Offline.is (ap (λ (m : Control). don
 
 pub returns-in-Detection-clause-rest : goal.returns-in-Detection-clause-rest
 unfolding cycle_conversation
-returns-in-Detection-clause-rest c = rw c.in-Detection.is (detect_at 0 c.low.result.value _ (omega arith) (omega arith))
+returns-in-Detection-clause-rest c = rw c.in-Detection.is (detect_at 0 c.low.result.value (card_of c.args.self.now c.args.queues.now) (omega arith) (omega arith))
 
 pub returns-in-Normal-clause-rest : goal.returns-in-Normal-clause-rest
 unfolding cycle_conversation
@@ -21,4 +21,4 @@ returns-in-Normal-clause-rest c =
 
 pub returns-in-Activation-clause-rest : goal.returns-in-Activation-clause-rest
 unfolding cycle_conversation
-returns-in-Activation-clause-rest c = rw c.in-Activation.is c.activate_from.ensures.rest
+returns-in-Activation-clause-rest c = rw c.in-Activation.is (c.activate_from.ensures.rest c.args.queues.now)

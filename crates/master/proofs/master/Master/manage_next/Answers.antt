@@ -17,6 +17,6 @@ returns-then-is_active-clause-rest c =
 pub returns-clause-rest : goal.returns-clause-rest
 returns-clause-rest c =
     let next = order_next (control_of c.args.self.now) c.args.queues.now c.in-Some.order c.in-Some.ensures in
-    c.search_next-2.ensures.rest
+    c.search_next-2.ensures.rest c.finish.new.self
     ∙ ap searching (put_so (control_of c.args.self.now) c.args.queues.now c.finish.new.self _ c.finish.ensures.orders c.finish.ensures.answers c.finish.ensures.served)
     ∙ sym (order_idle (ordered c.in-Some.order) (card_of c.args.self.now c.args.queues.now) next.1 next.0 (ap (λ (a : ℕ). (row_at a (rows c.args.self.now.table.rows)).active) (sym c.address.ensures) ∙ sym c.if-is_active.ensures))

@@ -2,7 +2,9 @@
 //!
 //! `compare [N [SEED]]` replays N random successions of calls on both,
 //! `compare time` measures both, `compare coverage [N [SEED]]` counts what
-//! comes up in the successions.
+//! comes up in the successions. `compare cycles ACTIVE N` only runs N cycles
+//! of the library with so many active modules, for whoever counts its
+//! instructions.
 //!
 //! Built with `rustc --edition 2021 -O -L DIR -l static=exports main.rs`,
 //! where DIR holds the library; `--cfg standalone` in place of the library
@@ -29,6 +31,10 @@ fn main() -> ExitCode {
     let arguments: Vec<&str> = arguments.iter().map(String::as_str).collect();
     match arguments[..] {
         ["time"] => timing::print(),
+        ["cycles", active, cycles] => match (active.parse(), cycles.parse()) {
+            (Ok(active @ 0..=31), Ok(cycles)) => timing::run_library(active, cycles),
+            _ => return usage(),
+        },
         ["coverage", ref numbers @ ..] => match numbers_of(numbers) {
             Some((successions, seed)) => coverage::print(successions, seed),
             None => return usage(),
@@ -52,7 +58,7 @@ fn numbers_of(arguments: &[&str]) -> Option<(u64, u64)> {
 }
 
 fn usage() -> ExitCode {
-    eprintln!("compare [N [SEED]] | compare time | compare coverage [N [SEED]]");
+    eprintln!("compare [N [SEED]] | time | count | coverage [N [SEED]] | cycles ACTIVE N");
     ExitCode::from(2)
 }
 

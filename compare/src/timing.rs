@@ -26,6 +26,11 @@ pub fn print() {
     }
 }
 
+/// Runs cycles of the library with so many modules, and nothing else.
+pub fn run_library(active: usize, cycles: u32) {
+    black_box(linked::cycles(&mut image_with(active), cycles));
+}
+
 fn image_with(active: usize) -> Vec<u32> {
     let mut words = vec![0; 33];
     words[1..=active].fill(MODULE);

@@ -12,6 +12,12 @@ pub data Dialogue (A : Type 0) : Type 0 where
   -- the first where this holds, else the second
   whether : Bool → Dialogue A → Dialogue A → Dialogue A
 
+-- the same, with what is made of what it comes to
+abbrev pub seen_by : {A B : Type 0} → (A → B) → Dialogue A → Dialogue B
+seen_by f (comes x) = comes (f x)
+seen_by f (asks q k) = asks q (λ h. seen_by f (k h))
+seen_by f (whether b c d) = whether b (seen_by f c) (seen_by f d)
+
 -- said with address a, and then the conversation goes on
 abbrev pub dialogue_at : {A B : Type 0} → ℕ → Dialogue A → (A → Conversation B) → Conversation B
 dialogue_at a (comes x) f = f x

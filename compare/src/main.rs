@@ -58,7 +58,7 @@ fn numbers_of(arguments: &[&str]) -> Option<(u64, u64)> {
 }
 
 fn usage() -> ExitCode {
-    eprintln!("compare [N [SEED]] | time | count | coverage [N [SEED]] | cycles ACTIVE N");
+    eprintln!("compare [N [SEED]] | time | coverage [N [SEED]] | cycles ACTIVE N");
     ExitCode::from(2)
 }
 

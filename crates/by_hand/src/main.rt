@@ -18,6 +18,9 @@ use wire::Wire;
 
 const CYCLES: u32 = 4;
 
+/// The power of this wire never fails.
+const POWERED: bool = true;
+
 /// What the master hears: no word is silence, and a word that is no good reply is disturbed.
 fn reply_of(word: Option<u32>) -> Reply
     ensures silence { (heard result ≡ silence) ↔ IsNone word }
@@ -37,7 +40,7 @@ fn run_cycle(
     queues: &mut Queues,
     wire: &mut Wire,
 ) -> io::Result<Report> {
-    let mut cycle = master.begin(queues, wire.is_powered());
+    let mut cycle = master.begin(queues, POWERED);
     while let Some(request) = cycle.next() {
         let reply = reply_of(wire.carry(encode_request(request)));
         print_exchange(rt, request, reply)?;

@@ -62,19 +62,13 @@ impl Module {
 #[derive(Drop)]
 pub struct Wire {
     module: Module,
-    powered: bool,
 }
 
 impl Wire {
     pub fn new() -> Wire {
         Wire {
             module: Module::new(),
-            powered: true,
         }
-    }
-
-    pub fn is_powered(&self) -> bool {
-        self.powered
     }
 
     /// Carries the word of a request, and the word of the reply back, where there is one.

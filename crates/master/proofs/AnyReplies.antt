@@ -1,20 +1,20 @@
 -- What a cycle asks where any replies come.
-use Rattle.std.proofs.Common.{◌≡◌, ℕ, zero, suc, ◌+◌, ◌-◌, ◌*◌, ◌≤◌, Bool, false, cond, ◌&&◌, List, [], ◌∷◌, ◌++◌, map, length, sym, ap, ◌∙◌, subst, arith}
+use Rattle.std.proofs.Common.{◌≡◌, refl, ℕ, zero, suc, ◌+◌, ◌-◌, ◌*◌, ◌≤◌, Bool, false, cond, ◌&&◌, List, [], ◌∷◌, ◌++◌, map, length, sym, ap, ◌∙◌, subst, arith}
 use Rattle.std.specs.Prelude.{nat_lt}
 use Rattle.std.specs.List.{AllByRecursion}
 use Rattle.std.proofs.lemmas.List.{append-nil, length-append}
-use Rattle.std.proofs.lemmas.Bool.{cond_both, cond-true, cond-false}
+use Rattle.std.proofs.lemmas.Bool.{cond_both, cond-true, cond-false, and_right}
 use Rattle.telegrams.specs.Requests.{Asking, Sent, Heard, nibble, silence, disturbed, data_exchange}
 use Rattle.records.specs.Rows.{Row, row_at}
 use Rattle.records.specs.declared.record.Mode.{Mode}
 use Rattle.records.specs.Records.{rows}
 use Rattle.records.proofs.Written.{zero_inactive}
 use Rattle.phases.specs.Conversations.{Conversation, done, questions}
-use Rattle.phases.specs.Dialogues.{Dialogue, dialogue_at}
+use Rattle.phases.specs.Dialogues.{Dialogue, comes, whether, dialogue_at}
 use Rattle.phases.specs.Visits.{addressed, sent_below}
 use Rattle.phases.specs.Exchange.{exchange_dialogue}
 use Rattle.phases.specs.Detection.{name_after, detect_dialogue}
-use Rattle.phases.specs.Activation.{admissible, activate_dialogue}
+use Rattle.phases.specs.Activation.{admissible, enter_dialogue, activate_dialogue}
 use Rattle.orders.specs.Orders.{ordered}
 use Rattle.orders.specs.Management.{Ended, manage_dialogue}
 use Rattle.orders.specs.declared.order.Order.{Order}
@@ -25,7 +25,7 @@ use Rattle.search.specs.Steps.{Stage, seek, name, enter, step_after}
 use Rattle.search.specs.Searches.{Stepped, search_dialogue, taken_by}
 use Rattle.master.specs.Cycles.{Card, card_of}
 use Rattle.master.specs.Cycling.{with_card_rows, with_card_row, to_step, to_phase, put_answer, with_each, managing, searching, conversation_in, cycle_conversation, row_in_card}
-use Rattle.master.specs.AnyReplies.{exchanges_due, NoDataExchange, OnceEachAsked, AsksOnAnyWire}
+use Rattle.master.specs.AnyReplies.{exchanges_due, NoDataExchange, OnceEachAsked, most_in, AsksOnAnyWire}
 use Rattle.master.specs.declared.master.Master.{Master}
 use Rattle.master.specs.declared.master.Phase.{Phase}
 use Rattle.master.specs.declared.master.Phase.TheVariants.{Offline, Detection, Activation, Normal}
@@ -104,53 +104,61 @@ due_few rs idle = length_below due (λ n. n - 1) each 32
     each zero = omega (arith, ap length (cond-false _ (data_exchange (row_at 0 rs).odi ∷ []) [] idle))
     each (suc a) = cond_both (row_at (suc a) rs).active _ _ (λ (qs : List Asking). length qs + (suc a - 1) ≤ suc (suc a) - 1) (λ _. omega arith) (λ _. omega arith)
 
-normal_asks : (c : Card) → (row_in_card 0 c).active ≡ false → AllOthers c.orders → (replies : ℕ → Heard) → OnceEachAsked c.control.rows (questions replies (with_each (λ a. exchange_dialogue) c (λ d. managing d.orders d searching)))
-normal_asks c idle orders replies =
+normal_asks : (c : Card) → AllOthers c.orders → (replies : ℕ → Heard) → OnceEachAsked c.control.rows (questions replies (with_each (λ a. exchange_dialogue) c (λ d. managing d.orders d searching)))
+normal_asks c orders replies =
     let rs = c.control.rows in
     let it = asked_each (λ a. exchange_dialogue) (λ xs. managing c.orders (with_card_rows xs c) searching) rs replies in
-    let behind = questions it.unheard (managing c.orders (with_card_rows it.last c) searching) in
-    let others = manage_asks c.orders (with_card_rows it.last c) orders it.unheard in
+    let later = manage_asks c.orders (with_card_rows it.last c) orders it.unheard in
     let due : sent_below 32 it.asking ≡ exchanges_due rs = (λ i. sent_below 32 (λ a. ((it.says a).1 ∙ exchange_asks (row_at a rs) (it.says a).0) i)) in
-    let first = it.asked ∙ ap (λ (qs : List Sent). qs ++ behind) due in
     record {
-      behind = behind;
-      due_first = first;
-      few_behind = others.few;
-      none_behind = others.none;
-      at_most = omega (arith, ap length first, length-append (exchanges_due rs) behind, due_few rs idle, others.few);
+      others = questions it.unheard (managing c.orders (with_card_rows it.last c) searching);
+      due_first = it.asked ∙ ap (λ (qs : List Sent). qs ++ questions it.unheard (managing c.orders (with_card_rows it.last c) searching)) due;
+      few_others = later.few;
+      none_others = later.none;
     }
+
+normal_few : (rs : List Row) (qs : List Sent) → (row_at 0 rs).active ≡ false → OnceEachAsked rs qs → length qs ≤ 33
+normal_few rs qs idle once = omega (arith, ap length once.due_first, length-append (exchanges_due rs) once.others, due_few rs idle, once.few_others)
 
 -- Detection and activation
 
--- at most two requests to each address, and nothing behind them
-each_ends : (dialogue : ℕ → Row → Dialogue Row) (p : Phase) (c : Card) → ((a : ℕ) (r : Row) (replies : ℕ → Heard) → length (said replies (dialogue a r)).asking ≤ 2) → (replies : ℕ → Heard) → length (questions replies (with_each dialogue c (λ d. done (to_phase p d)))) ≤ 64
-each_ends dialogue p c few replies =
+-- most n is how many requests go to the addresses below n at most; nothing follows them
+each_ends :
+    (dialogue : ℕ → Row → Dialogue Row) (p : Phase) (most : ℕ → ℕ) → ((a : ℕ) (r : Row) (replies : ℕ → Heard) → length (said replies (dialogue a r)).asking + most a ≤ most (suc a))
+    → (c : Card) (replies : ℕ → Heard) → length (questions replies (with_each dialogue c (λ d. done (to_phase p d)))) ≤ most 32
+each_ends dialogue p most few c replies =
     let it = asked_each dialogue (λ rs. done (to_phase p (with_card_rows rs c))) c.control.rows replies in
-    let two = length_below it.asking (λ n. 2 * n) (λ a. omega (arith, few a (row_at a c.control.rows) (it.says a).0, ap length (it.says a).1)) 32 in
-    omega (arith, ap length (it.asked ∙ append-nil (sent_below 32 it.asking)), two)
+    let all = length_below it.asking most (λ a. omega (arith, few a (row_at a c.control.rows) (it.says a).0, ap length (it.says a).1)) 32 in
+    omega (arith, ap length (it.asked ∙ append-nil (sent_below 32 it.asking)), all)
 
 name_few : (r : Row) (h : Heard) (replies : ℕ → Heard) → length (said replies (name_after r h)).asking ≤ 1
 name_few r (nibble n) replies = omega arith
 name_few r silence replies = omega arith
 name_few r disturbed replies = omega arith
 
-activate_few : (mode : Mode) (a : ℕ) (r : Row) (replies : ℕ → Heard) → length (said replies (activate_dialogue mode a r)).asking ≤ 2
-activate_few mode a r replies = cond_both (r.detected && admissible mode a r) _ _ (λ (t : Said Row). length t.asking ≤ 2) (λ _. omega arith) (λ _. omega arith)
+-- address 0 is never admissible
+activate_few : (mode : Mode) (a : ℕ) (r : Row) (replies : ℕ → Heard) → length (said replies (activate_dialogue mode a r)).asking + (a - 1) ≤ suc a - 1
+activate_few mode zero r replies =
+    let never : (r.detected && admissible mode 0 r) ≡ false = and_right r.detected (admissible mode 0 r) refl in
+    let silent : length (said replies (activate_dialogue mode 0 r)).asking ≡ 0 = ap (λ (b : Bool). length (said replies (whether b (enter_dialogue r) (comes r))).asking) never in
+    omega (arith, silent)
+activate_few mode (suc a) r replies =
+    cond_both (r.detected && admissible mode (suc a) r) _ _ (λ (t : Said Row). length t.asking + (suc a - 1) ≤ suc (suc a) - 1) (λ _. omega arith) (λ _. omega arith)
 
 -- Every phase
 
 module _ (c : Card) (idle : (row_in_card 0 c).active ≡ false) (orders : AllOthers c.orders) (powered : Bool) where
-  ends_in : (p : Phase) (replies : ℕ → Heard) → length (questions replies (conversation_in p powered c)) ≤ 64
+  ends_in : (p : Phase) (replies : ℕ → Heard) → length (questions replies (conversation_in p powered c)) ≤ most_in p
   ends_in Offline replies = omega arith
-  ends_in Detection replies = each_ends (λ a. detect_dialogue) Activation c (λ a r rs. omega (arith, name_few r (rs 0) (λ i. rs (suc i)))) replies
-  ends_in Activation replies = each_ends (activate_dialogue c.control.mode) Normal c (activate_few c.control.mode) replies
-  ends_in Normal replies = omega (arith, (normal_asks c idle orders replies).at_most)
+  ends_in Detection replies = each_ends (λ a. detect_dialogue) Activation (λ n. 2 * n) (λ a r rs. omega (arith, name_few r (rs 0) (λ i. rs (suc i)))) c replies
+  ends_in Activation replies = each_ends (activate_dialogue c.control.mode) Normal (λ n. n - 1) (activate_few c.control.mode) c replies
+  ends_in Normal replies = normal_few c.control.rows _ idle (normal_asks c orders replies)
 
   phase_asks : (p : Phase) → AsksOnAnyWire p c.control.rows (conversation_in p powered c)
   phase_asks p =
       record {
         ends = ends_in p;
-        once_each = λ normal. subst (λ (k : Phase). (replies : ℕ → Heard) → OnceEachAsked c.control.rows (questions replies (conversation_in k powered c))) (sym normal) (normal_asks c idle orders);
+        once_each = λ normal. subst (λ (k : Phase). (replies : ℕ → Heard) → OnceEachAsked c.control.rows (questions replies (conversation_in k powered c))) (sym normal) (normal_asks c orders);
       }
 
 orders_other : (os : List Order) → AllOthers (map ordered os)

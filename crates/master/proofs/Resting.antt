@@ -8,7 +8,7 @@ use Rattle.telegrams.specs.Requests.{Sent, Heard, nibble, silence, disturbed, da
 use Rattle.records.specs.Rows.{Row, new_row, row_at}
 use Rattle.records.specs.declared.record.Mode.{Mode}
 use Rattle.records.specs.Ahead.{active_within, first_active}
-use Rattle.phases.specs.Exchange.{exchanged, exchange_dialogue}
+use Rattle.phases.specs.Exchange.{exchange_asking, exchange_dialogue}
 use Rattle.phases.specs.Detection.{detect_dialogue}
 use Rattle.phases.specs.Activation.{admissible, entered, enter_dialogue, activate_dialogue}
 use Rattle.phases.specs.Conversations.{Conversation, done}
@@ -24,7 +24,7 @@ use Rattle.search.specs.Steps.{step_after}
 use Rattle.master.specs.Cycles.{Control, Card, with_step, with_rows}
 use Rattle.master.specs.Cycling.{row_in_card, with_card_rows, with_card_row, to_step, to_phase, managing, searching}
 use Rattle.master.specs.declared.master.Phase.TheVariants.{Activation, Normal}
-use Rattle.master.specs.Turns.{with_each_from, detect_rest, activate_rest, manage_rest, exchange_rest, entered_with, put_back, manage_turn}
+use Rattle.master.specs.Turns.{with_each_from, detect_rest, activate_rest, manage_rest, exchange_rest, entered_with, enter_asking, put_back, manage_turn}
 
 abbrev pub card_with : Control → Queues → Card
 card_with m q = record { control = m; orders = waiting q; answers = uncollected q; order_room = room q.orders; answer_room = room q.answers }
@@ -62,7 +62,7 @@ module _ (test : ℕ → Row → Bool) (asking : ℕ → Row → Dialogue Row) (
 
 -- address b is asked, with n as its outputs
 abbrev pub exchange_turn : ℕ → ℕ → Card → Conversation Card
-exchange_turn n b c = dialogue_at b (asks (data_exchange n) (λ h. comes (exchanged (row_in_card b c) h))) (λ r. exchange_rest (b + 1) (with_card_row b r c))
+exchange_turn n b c = dialogue_at b (exchange_asking n (row_in_card b c)) (λ r. exchange_rest (b + 1) (with_card_row b r c))
 
 -- address b is asked, with its ODI
 abbrev exchange_now : ℕ → Card → Conversation Card
@@ -71,8 +71,8 @@ exchange_now b c = exchange_turn (row_in_card b c).odi b c
 abbrev active_there : ℕ → Row → Bool
 active_there a r = r.active
 
-abbrev exchange_asking : ℕ → Row → Dialogue Row
-exchange_asking a r = asks (data_exchange r.odi) (λ h. comes (exchanged r h))
+abbrev asking_odi : ℕ → Row → Dialogue Row
+asking_odi a r = exchange_asking r.odi r
 
 value_of : Option ℕ → ℕ
 value_of None = 0
@@ -85,7 +85,7 @@ exchange_ends (suc n) a c sized none = by_activity (row_in_card a c).active refl
   where
     by_activity : (b : Bool) → (row_in_card a c).active ≡ b → cond b (Some a) (active_within n (a + 1) c.control.rows) ≡ None → (active_within n (a + 1) c.control.rows ≡ None → exchange_rest (a + 1) c ≡ manage_rest c) → exchange_rest a c ≡ manage_rest c
     by_activity true is e rest = absurd (none-some a (sym e))
-    by_activity false is e rest = skipped active_there exchange_asking manage_rest a c (omega (arith, sized)) is ∙ rest e
+    by_activity false is e rest = skipped active_there asking_odi manage_rest a c (omega (arith, sized)) is ∙ rest e
 
 exchange_comes : (n a : ℕ) (c : Card) (b : ℕ) → a + n ≡ 32 → active_within n a c.control.rows ≡ Some b → (exchange_rest a c ≡ exchange_now b c) × (a ≤ b)
 unfolding active_within value_of
@@ -95,14 +95,14 @@ exchange_comes (suc n) a c b sized some = by_activity (row_in_card a c).active r
     by_activity : (t : Bool) → (row_in_card a c).active ≡ t → cond t (Some a) (active_within n (a + 1) c.control.rows) ≡ Some b → (active_within n (a + 1) c.control.rows ≡ Some b → (exchange_rest (a + 1) c ≡ exchange_now b c) × (a + 1 ≤ b)) → (exchange_rest a c ≡ exchange_now b c) × (a ≤ b)
     by_activity true is e rest =
         let same : a ≡ b = ap value_of e in
-        (taken_next active_there exchange_asking manage_rest a c (omega (arith, sized)) is ∙ ap (λ (k : ℕ). exchange_now k c) same, omega (arith, same))
+        (taken_next active_there asking_odi manage_rest a c (omega (arith, sized)) is ∙ ap (λ (k : ℕ). exchange_now k c) same, omega (arith, same))
     by_activity false is e rest =
         let later = rest e in
-        (skipped active_there exchange_asking manage_rest a c (omega (arith, sized)) is ∙ later.0, omega (arith, later.1))
+        (skipped active_there asking_odi manage_rest a c (omega (arith, sized)) is ∙ later.0, omega (arith, later.1))
 
 -- nothing is exchanged with address 0
 pub exchange_first : (a : ℕ) (c : Card) → a ≡ 0 → (row_in_card 0 c).active ≡ false → exchange_rest (a + 1) c ≡ exchange_rest 0 c
-exchange_first a c none idle = ap (λ (k : ℕ). exchange_rest (k + 1) c) none ∙ sym (skipped active_there exchange_asking manage_rest 0 c (omega arith) idle)
+exchange_first a c none idle = ap (λ (k : ℕ). exchange_rest (k + 1) c) none ∙ sym (skipped active_there asking_odi manage_rest 0 c (omega arith) idle)
 
 pub exchange_over : (a : ℕ) (c : Card) → a ≤ 32 → first_active a c.control.rows ≡ None → exchange_rest a c ≡ manage_rest c
 exchange_over a c inside none = exchange_ends (32 - a) a c (omega (arith, inside)) none
@@ -131,15 +131,11 @@ entered_same r (nibble k) = refl
 entered_same r silence = refl
 entered_same r disturbed = refl
 
--- an address is entered, with n as its parameter
-abbrev pub enter_turn : ℕ → Row → Dialogue Row
-enter_turn n r = asks (write_parameter n) (λ h. comes (entered_with n r h))
-
-pub enter_same : (n : ℕ) (r : Row) → n ≡ r.pp → enter_turn n r ≡ enter_dialogue r
-enter_same n r pp = ap (λ (k : ℕ). enter_turn k r) pp ∙ (λ i. asks (write_parameter r.pp) (λ h. comes (entered_same r h i)))
+pub enter_same : (n : ℕ) (r : Row) → n ≡ r.pp → enter_asking n r ≡ enter_dialogue r
+enter_same n r pp = ap (λ (k : ℕ). enter_asking k r) pp ∙ (λ i. asks (write_parameter r.pp) (λ h. comes (entered_same r h i)))
 
 abbrev pub activate_turn : ℕ → ℕ → Card → Conversation Card
-activate_turn n a c = dialogue_at a (enter_turn n (row_in_card a c)) (λ r. activate_rest (a + 1) (with_card_row a r c))
+activate_turn n a c = dialogue_at a (enter_asking n (row_in_card a c)) (λ r. activate_rest (a + 1) (with_card_row a r c))
 
 abbrev entered_at : Mode → ℕ → Row → Bool
 entered_at mode a r = r.detected && admissible mode a r

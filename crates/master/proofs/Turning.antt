@@ -1,6 +1,8 @@
 -- The loop that has a cycle with a line, turn by turn, comes to what a cycle is.
-use Rattle.std.proofs.Common.{◌≡◌, ℕ, ◌<◌, Bool, true, false, List, [], ◌∷◌, None, map, length, sym, refl, ap, ◌∙◌, subst, cond, not, ◌||◌}
-use Rattle.telegrams.specs.Requests.{Sent}
+use Rattle.std.proofs.Common.{◌≡◌, ℕ, ◌<◌, Bool, true, false, List, [], ◌∷◌, Some, None, Option, map, length, sym, refl, ap, ◌∙◌, subst, cond, not, ◌||◌}
+use Rattle.telegrams.specs.Requests.{sent}
+use Rattle.telegrams.specs.declared.request.Request.{Request}
+use Rattle.std.specs.Prelude.{option_map}
 use Rattle.lines.specs.Lines.{Meaning}
 use Rattle.stations.specs.Stations.{Place}
 use Rattle.records.specs.Rows.{Row}
@@ -102,6 +104,10 @@ came_done t c x none is = ap (value_or c) (sym (over_turn t c none) ∙ is)
 pub served_on : (b : Bool) {p q r : Queues} → Served p q → Served q r → (b ≡ true → q ≡ p) → (b ≡ false → r ≡ q) → Served p r
 served_on true {p} {q} {r} before now same kept = subst (λ (x : Queues). Served x r) (same refl) now
 served_on false {p} {q} {r} before now same kept = subst (λ (x : Queues). Served p x) (sym (kept refl)) before
+
+-- at a turn at which a request is next, something is asked
+pub asks_next : (t : Turn) {next : Option Request} {request : Request} → next ≡ Some request → ((d : Card) → option_map sent next ≡ question (rest_of t d)) → Asks t
+asks_next t some is d none = none-some _ (sym none ∙ sym (is d) ∙ ap (option_map sent) some)
 
 -- where the cycle is over, nothing is asked
 pub not_over : {X : Type 0} {t : Turn} → t ≡ Over → Card → Asks t → X

@@ -1,21 +1,21 @@
 -- What is left of a cycle at each turn: a conversation, for every reply that may come. It speaks of the master as it is at that turn.
 -- A reader compares each turn with the part of a cycle (Cycling.antt) that it stands in: what is asked there, what the reply makes of the row,
 -- and the rest of that part.
-use Rattle.std.specs.Prelude.{◌≡◌, ℕ, Bool, true, false, ◌+◌, ◌-◌, ◌*◌, cond, nat_lt, length, List, [], ◌∷◌, ◌++◌, drop, None}
-use Rattle.telegrams.specs.Requests.{Sent, Heard, silence, nibble, data_exchange, write_parameter, read_io, read_id}
-use Rattle.records.specs.Rows.{Row}
-use Rattle.phases.specs.Exchange.{exchanged, exchange_dialogue}
-use Rattle.phases.specs.Detection.{name_after, detect_dialogue}
+use Rattle.std.specs.Prelude.{◌≡◌, ℕ, Bool, true, false, ◌+◌, ◌-◌, ◌*◌, cond, nat_lt, length, [], ◌∷◌, ◌++◌, drop, slice_set, None}
+use Rattle.telegrams.specs.Requests.{Sent, Heard, silence, nibble, write_parameter}
+use Rattle.records.specs.Rows.{Row, row_at}
+use Rattle.phases.specs.Exchange.{exchanged, exchange_asking, exchange_dialogue}
+use Rattle.phases.specs.Detection.{named, name_after, detect_dialogue}
 use Rattle.phases.specs.Activation.{admissible, with_pi, entered, activate_dialogue}
 use Rattle.phases.specs.Conversations.{Conversation, done, question}
 use Rattle.phases.specs.Dialogues.{Dialogue, comes, asks, dialogue_at}
-use Rattle.orders.specs.Orders.{ordered, Ending, replied}
-use Rattle.orders.specs.Management.{Ended, managed}
+use Rattle.orders.specs.Orders.{ordered, Ending}
+use Rattle.orders.specs.Management.{managed, order_asking, next_order}
 use Rattle.orders.specs.Queues.{Served}
 use Rattle.orders.specs.declared.pair.Queues.{Queues}
-use Rattle.search.specs.Steps.{step_after}
-use Rattle.search.specs.Searches.{Stepped, sought, called}
-use Rattle.master.specs.Cycles.{Card, card_of}
+use Rattle.search.specs.Steps.{seek, name, step_after}
+use Rattle.search.specs.Searches.{Stepped, sought, called, search_dialogue}
+use Rattle.master.specs.Cycles.{Control, Card, with_rows, card_of}
 use Rattle.master.specs.Cycling.{row_in_card, with_card_row, with_each_of, managing, searching, to_step, to_phase}
 use Rattle.master.specs.declared.master.Master.{Master}
 use Rattle.master.specs.declared.master.Phase.TheVariants.{Activation, Normal}
@@ -45,6 +45,9 @@ exchange_rest a c = with_each_from (λ b. exchange_dialogue) a c manage_rest
 abbrev pub entered_with : ℕ → Row → Heard → Row
 entered_with n r h = with_pi n (entered r h)
 
+abbrev pub enter_asking : ℕ → Row → Dialogue Row
+enter_asking n r = asks (write_parameter n) (λ h. comes (entered_with n r h))
+
 -- order o has ended so: it leaves the queue, and its answer is put where it has room
 abbrev pub put_back : Sent → Ending → Card → Card
 put_back o how c =
@@ -55,8 +58,7 @@ put_back o how c =
 
 abbrev pub manage_turn : Sent → Card → Conversation Card
 manage_turn o c =
-    dialogue_at o.to (asks o.asking (λ h. comes (record { row = managed o.asking (row_in_card o.to c) h; how = replied h })))
-    (λ (e : Ended). searching (put_back o e.how (with_card_row o.to e.row c)))
+    dialogue_at o.to (order_asking o.asking (row_in_card o.to c)) (λ e. searching (put_back o e.how (with_card_row o.to e.row c)))
 
 -- a step of the search was taken at address a
 abbrev pub step_rest : ℕ → Card → Stepped → Conversation Card
@@ -68,18 +70,13 @@ abbrev pub rest_of : Turn → Card → Conversation Card
 rest_of Over c = done c
 rest_of (DetectIo a) c = dialogue_at a.value (detect_dialogue (row_in_card a.value c)) (λ r. detect_rest (a.value + 1) (with_card_row a.value r c))
 rest_of (DetectId a n) c = dialogue_at a.value (name_after (row_in_card a.value c) (nibble n.value)) (λ r. detect_rest (a.value + 1) (with_card_row a.value r c))
-rest_of (Activate a n) c =
-    dialogue_at a.value (asks (write_parameter n.value) (λ h. comes (entered_with n.value (row_in_card a.value c) h)))
-    (λ r. activate_rest (a.value + 1) (with_card_row a.value r c))
-rest_of (Exchange a n) c =
-    dialogue_at a.value (asks (data_exchange n.value) (λ h. comes (exchanged (row_in_card a.value c) h)))
-    (λ r. exchange_rest (a.value + 1) (with_card_row a.value r c))
+rest_of (Activate a n) c = dialogue_at a.value (enter_asking n.value (row_in_card a.value c)) (λ r. activate_rest (a.value + 1) (with_card_row a.value r c))
+rest_of (Exchange a n) c = dialogue_at a.value (exchange_asking n.value (row_in_card a.value c)) (λ r. exchange_rest (a.value + 1) (with_card_row a.value r c))
 rest_of (Manage o) c = manage_turn (ordered o) c
-rest_of (Seek a) c = dialogue_at a.value (asks read_io (λ h. comes (record { row = sought (row_in_card a.value c) h; deciding = h }))) (step_rest a.value c)
-rest_of (Name a n) c = dialogue_at a.value (asks read_id (λ h. comes (record { row = called n.value (row_in_card a.value c) h; deciding = h }))) (step_rest a.value c)
+rest_of (Seek a) c = dialogue_at a.value (search_dialogue c.control.mode (seek a.value) a.value (row_in_card a.value c)) (step_rest a.value c)
+rest_of (Name a n) c = dialogue_at a.value (search_dialogue c.control.mode (name a.value n.value) a.value (row_in_card a.value c)) (step_rest a.value c)
 rest_of (Enter a n) c =
-    dialogue_at a.value (asks (write_parameter n.value) (λ h. comes (record { row = entered_with n.value (row_in_card a.value c) h; deciding = silence })))
-    (step_rest a.value c)
+    dialogue_at a.value (enter_asking n.value (row_in_card a.value c)) (λ r. step_rest a.value c (record { row = r; deciding = silence }))
 
 -- what is left for a master with its queues
 abbrev pub left : Turn → Master → Queues → Conversation Card
@@ -91,6 +88,22 @@ Asks t = (c : Card) → question (rest_of t c) ≡ None → ⊥
 
 abbrev pub AsksNothing : Turn → Type 0
 AsksNothing t = (c : Card) → question (rest_of t c) ≡ None
+
+-- While something more is asked, a reply changes nothing but the row of the address that was asked
+
+abbrev pub with_row : ℕ → (Row → Row) → Control → Control
+with_row a f m = with_rows (slice_set m.rows a (f (row_at a m.rows))) m
+
+abbrev pub heard_at : Turn → Heard → Control → Control
+heard_at Over h m = m
+heard_at (DetectIo a) h m = m
+heard_at (DetectId a n) h m = with_row a.value (λ r. named n.value r h) m
+heard_at (Activate a n) h m = with_row a.value (λ r. entered_with n.value r h) m
+heard_at (Exchange a n) h m = with_row a.value (λ r. exchanged r h) m
+heard_at (Manage o) h m = with_row (ordered o).to (λ r. managed (ordered o).asking r h) m
+heard_at (Seek a) h m = with_row a.value (λ r. sought r h) m
+heard_at (Name a n) h m = with_row a.value (λ r. called n.value r h) m
+heard_at (Enter a n) h m = with_row a.value (λ r. entered_with n.value r h) m
 
 -- how many requests are left at most
 abbrev pub left_at : Turn → ℕ
@@ -116,9 +129,21 @@ before_answer (Seek a) = false
 before_answer (Name a n) = false
 before_answer (Enter a n) = false
 
+abbrev pub takes_order : Turn → Bool
+takes_order Over = false
+takes_order (DetectIo a) = false
+takes_order (DetectId a n) = false
+takes_order (Activate a n) = false
+takes_order (Exchange a n) = false
+takes_order (Manage o) = true
+takes_order (Seek a) = false
+takes_order (Name a n) = false
+takes_order (Enter a n) = false
+
 -- The queues are served once in a cycle: from one turn to the next they stay as they are, but where an order ends
 
 pub record ServedBetween (t t' : Turn) (q q' : Queues) : Type 0 where
   pub served : Served q q'
+  pub idle : takes_order t ≡ false → next_order q ≡ None → q' ≡ q
   pub early : before_answer t' ≡ true → (q' ≡ q) × (before_answer t ≡ true)
   pub late : before_answer t ≡ false → q' ≡ q

@@ -2,14 +2,15 @@ ghost use Rattle.std.specs.Prelude.{◌≡◌, ◌≤◌, ◌<◌, ◌+◌, ◌-
 ghost use Rattle.telegrams.specs.Requests.{sent, heard};
 ghost use Rattle.phases.specs.Activation.{admissible};
 ghost use Rattle.phases.specs.Conversations.{question, when_heard};
+ghost use Rattle.orders.specs.Management.{next_order};
 ghost use Rattle.orders.specs.Queues.{Served};
 ghost use Rattle.records.specs.Rows.{row_at};
 ghost use Rattle.records.specs.Records.{rows};
 ghost use Rattle.search.specs.Steps.{step_after};
 ghost use Rattle.master.specs.Cycles.{Card, control_of, with_step, card_of};
 ghost use Rattle.master.specs.Cycling.{cycle_conversation, searching};
-ghost use Rattle.master.specs.AnyReplies.{AsksOnAnyWire};
-ghost use Rattle.master.specs.Turns.{rest_of, left, Asks, AsksNothing, left_at, manage_rest, exchange_rest, detect_rest, activate_rest, before_answer, ServedBetween};
+ghost use Rattle.master.specs.AnyReplies.{most_in, AsksOnAnyWire};
+ghost use Rattle.master.specs.Turns.{rest_of, left, Asks, AsksNothing, heard_at, left_at, manage_rest, exchange_rest, detect_rest, activate_rest, before_answer, ServedBetween};
 
 use super::cycle::Report;
 use super::master::{Master, Phase};
@@ -29,7 +30,7 @@ use values::module_address::ModuleAddress;
 use values::nibble::Nibble;
 
 /// A cycle under way. `Master::begin` gives it, `next` the request that is to be sent, `Master::hear` takes the reply; where nothing is next, the
-/// cycle is over and `report` tells what it was.
+/// cycle is over and `report` tells what it was. It belongs to the master and the queues that it was begun with, and is void once they begin another.
 #[derive(Drop)]
 pub struct Cycle {
     pub(crate) phase: Phase,
@@ -67,15 +68,18 @@ impl Cycle {
 }
 
 impl Master {
-    /// Begins a cycle, with power up or not. What asks nothing is done at once.
+    /// Begins a cycle, with power up or not. What asks nothing is done at once. The nibble that a request carries is settled when the reply before
+    /// it is heard.
     pub fn begin(&mut self, queues: &mut Queues, powered: bool) -> Cycle
         ensures phase { result.phase ≡ (if self.old.offline || not powered then Phase.Offline else self.old.phase) }
         ensures none { result.requests ≡ 0 }
         ensures rest { left result.turn self.new queues.new ≡ cycle_conversation result.phase powered (card_of self.old queues.old) }
         ensures any_wire { AsksOnAnyWire result.phase (rows self.old.table.rows) (left result.turn self.new queues.new) }
-        ensures few { result.phase ≡ Phase.Normal → left_at result.turn ≤ 33 }
+        ensures waits { Asks result.turn → control_of self.new ≡ control_of self.old }
+        ensures few { left_at result.turn ≤ most_in result.phase }
         ensures served { Served queues.old queues.new }
         ensures early { before_answer result.turn ≡ true → queues.new ≡ queues.old }
+        ensures idle { next_order queues.old ≡ None → queues.new ≡ queues.old }
     {
         let phase = self.phase_with(powered);
         let turn = self.first_turn(queues, phase, powered);
@@ -86,12 +90,15 @@ impl Master {
         }
     }
 
+    /// The first turn of a cycle in this phase.
     fn first_turn(&mut self, queues: &mut Queues, phase: Phase, powered: bool) -> Turn
         ensures rest { left result self.new queues.new ≡ cycle_conversation phase powered (card_of self.old queues.old) }
         ensures few { left_at result ≤ 64 }
-        ensures normal { phase ≡ Phase.Normal → left_at result ≤ 33 }
+        ensures most { left_at result ≤ most_in phase }
         ensures served { Served queues.old queues.new }
         ensures early { before_answer result ≡ true → queues.new ≡ queues.old }
+        ensures waits { (result ≡ Turn.Over → ⊥) → control_of self.new ≡ control_of self.old }
+        ensures idle { next_order queues.old ≡ None → queues.new ≡ queues.old }
     {
         match phase {
             Phase::Offline => {
@@ -108,6 +115,7 @@ impl Master {
     #[inline(always)]
     pub fn hear(&mut self, queues: &mut Queues, cycle: &mut Cycle, reply: Reply)
         ensures goes_on { left cycle.new.turn self.new queues.new ≡ when_heard (heard reply) (left cycle.old.turn self.old queues.old) }
+        ensures waits { Asks cycle.new.turn → control_of self.new ≡ heard_at cycle.old.turn (heard reply) (control_of self.old) }
         ensures nearer { Asks cycle.old.turn → left_at cycle.new.turn < left_at cycle.old.turn }
         ensures counted { Asks cycle.old.turn → cycle.new.requests ≡ cycle.old.requests + 1 }
         ensures same_master { AsksNothing cycle.old.turn → self.new ≡ self.old }
@@ -129,11 +137,13 @@ impl Master {
         }
     }
 
+    /// The turn behind this one, after a reply.
     #[inline(always)]
     fn turn_after(&mut self, queues: &mut Queues, turn: Turn, reply: Reply) -> Turn
         ensures rest { left result self.new queues.new ≡ when_heard (heard reply) (left turn self.old queues.old) }
         ensures nearer { (turn ≡ Turn.Over → ⊥) → left_at result < left_at turn }
         ensures served { ServedBetween turn result queues.old queues.new }
+        ensures waits { (result ≡ Turn.Over → ⊥) → control_of self.new ≡ heard_at turn (heard reply) (control_of self.old) }
     {
         let rows = &mut self.table.rows;
         match turn {
@@ -183,6 +193,8 @@ impl Master {
         ensures few { left_at result ≤ 33 - at.value }
         ensures served { Served queues.old queues.new }
         ensures early { before_answer result ≡ true → queues.new ≡ queues.old }
+        ensures waits { (result ≡ Turn.Over → ⊥) → control_of self.new ≡ control_of self.old }
+        ensures idle { next_order queues.old ≡ None → queues.new ≡ queues.old }
     {
         if let Some(to) = self.table.rows.first_active_behind(at) {
             return Turn::Exchange(to, self.output_data(to));
@@ -197,6 +209,8 @@ impl Master {
         ensures few { left_at result ≤ 2 }
         ensures served { Served queues.old queues.new }
         ensures early { before_answer result ≡ true → queues.new ≡ queues.old }
+        ensures waits { (result ≡ Turn.Over → ⊥) → control_of self.new ≡ control_of self.old }
+        ensures idle { next_order queues.old ≡ None → queues.new ≡ queues.old }
     {
         let Some(order) = queues.next() else {
             return self.search_next();
@@ -216,6 +230,7 @@ impl Master {
         ensures rest { (q : Queues) → left result self.new q ≡ searching (card_of self.old q) }
         ensures few { left_at result ≤ 1 }
         ensures late { before_answer result ≡ false }
+        ensures waits { (result ≡ Turn.Over → ⊥) → control_of self.new ≡ control_of self.old }
     {
         match self.step {
             Step::Seek(from) => Turn::Seek(pick(&self.table.rows, from)),
@@ -245,6 +260,7 @@ impl Master {
         ensures rest { (q : Queues) → left result self.new q ≡ detect_rest (at.value + 1) (card_of self.old q) }
         ensures few { left_at result ≤ 2 * (31 - at.value) }
         ensures late { before_answer result ≡ false }
+        ensures waits { (result ≡ Turn.Over → ⊥) → control_of self.new ≡ control_of self.old }
     {
         if at.get() < 31 {
             return Turn::DetectIo(Address::low(u32::from(at) + 1));
@@ -259,6 +275,8 @@ impl Master {
         ensures rest { (q : Queues) → left result self.new q ≡ activate_rest from (card_of self.old q) }
         ensures few { left_at result ≤ 32 - from }
         ensures late { before_answer result ≡ false }
+        ensures waits { (result ≡ Turn.Over → ⊥) → control_of self.new ≡ control_of self.old }
+        ensures most { left_at result ≤ 31 }
     {
         for a in from..32 {
             if let Some(to) = self.activated(Address::low(a)) {

@@ -4,7 +4,7 @@ use values::module_address::ModuleAddress;
 use values::nibble::Nibble;
 
 /// Where a cycle stands: for which request a reply is due. A nibble beside an address is what is sent, or else the I/O code that came.
-#[derive(Clone, Copy, PartialEq, Eq)]
+#[derive(Clone, Copy)]
 pub enum Turn {
     /// Nothing more is asked.
     Over,

@@ -1,8 +1,8 @@
 -- Management takes the oldest order, where one waits and the answer queue is not full. An order for an address that is not in LAS ends
 -- with 8382, and nothing is sent. Any other is sent, and ends with what is heard. Where any nibble answers a parameter order, the ordered value
--- becomes PI. What is sent and heard is that of a line's one station, so that the same rule holds on every kind of line.
+-- becomes PI.
 -- A reader compares it with docs/CYCLE.md.
-use Rattle.std.specs.Prelude.{ℕ, Bool, cond, length, None, Option, nat_lt}
+use Rattle.std.specs.Prelude.{Bool, cond, length, None, Option, nat_lt}
 use Rattle.telegrams.specs.Requests.{Asking, Heard, nibble, silence, disturbed, data_exchange, write_parameter, read_io, read_id, resetting}
 use Rattle.stations.specs.Stations.{Place}
 use Rattle.queues.specs.Fifo.{held, room, oldest_of}
@@ -32,9 +32,11 @@ pub record Ended : Type 0 where
   pub row : Row
   pub how : Ending
 
+abbrev pub order_asking : Asking → Row → Dialogue Ended
+order_asking q r = asks q (λ h. comes (record { row = managed q r h; how = replied h }))
+
 abbrev pub manage_dialogue : Asking → Row → Dialogue Ended
-manage_dialogue q r =
-    whether r.active (asks q (λ h. comes (record { row = managed q r h; how = replied h }))) (comes (record { row = r; how = inactive }))
+manage_dialogue q r = whether r.active (order_asking q r) (comes (record { row = r; how = inactive }))
 
 abbrev pub manage_visit : Bool → Asking → Row → Place → Visit
 manage_visit power q r p = visit_by (λ e. e.row) power (manage_dialogue q r) p

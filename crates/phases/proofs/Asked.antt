@@ -13,12 +13,12 @@ pub record Said (A : Type 0) : Type 0 where
   pub came_to : A
   pub unheard : ℕ → Heard
 
-abbrev behind_asking : {A : Type 0} → Asking → Said A → Said A
-behind_asking q t = record t { asking = q ∷ t.asking }
+abbrev said_behind : {A : Type 0} → Asking → Said A → Said A
+said_behind q t = record t { asking = q ∷ t.asking }
 
 abbrev pub said : {A : Type 0} → (ℕ → Heard) → Dialogue A → Said A
 said replies (comes x) = record { asking = []; came_to = x; unheard = replies }
-said replies (asks q k) = behind_asking q (said (λ i. replies (suc i)) (k (replies 0)))
+said replies (asks q k) = said_behind q (said (λ i. replies (suc i)) (k (replies 0)))
 said replies (whether b c d) = cond b (said replies c) (said replies d)
 
 -- the conversation goes on behind the dialogue

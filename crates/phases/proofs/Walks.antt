@@ -1,4 +1,4 @@
--- What a conversation comes to on a line: with one address it is the visit there, and with each address in turn a table of visits.
+-- What a conversation comes to on a line: of a dialogue it is the visit there, and of a dialogue with each address in turn a table of visits.
 use Rattle.std.proofs.Common.{◌≡◌, ℕ, zero, suc, ◌+◌, ◌<◌, Bool, true, false, List, [], ◌∷◌, ◌++◌, length, set, sym, refl, ap, ◌∙◌, subst, add-one, arith}
 use Rattle.std.proofs.lemmas.List.{append_assoc, length-set, get_or-set_same, set-get_or, set-set}
 use Rattle.telegrams.specs.Requests.{Sent, Asking, Heard}
@@ -19,7 +19,7 @@ behind qs c = record c { sent = qs ++ c.sent }
 pub behind_both : {A : Type 0} (qs rs : List Sent) (c : Course A) → behind qs (behind rs c) ≡ behind (qs ++ rs) c
 behind_both qs rs c = ap (λ (ss : List Sent). record c { sent = ss }) (sym (append_assoc qs rs c.sent))
 
--- What a conversation with one address comes to, in parts
+-- What a dialogue comes to, in parts
 
 abbrev pub comes_to : {A : Type 0} → Bool → Dialogue A → Place → A
 comes_to power c p = told_by (λ x. x) power c p

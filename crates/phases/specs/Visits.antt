@@ -1,4 +1,4 @@
--- A visit: what a conversation with one address comes to at a station, whose replies follow the rules of docs/LINES.md. From the row and the
+-- A visit: what a dialogue comes to at a station, whose replies follow the rules of docs/LINES.md. From the row and the
 -- station it makes the row and the station afterwards, and what was sent.
 use Rattle.std.specs.Prelude.{ℕ, zero, suc, Bool, cond, List, [], ◌∷◌, ◌++◌}
 use Rattle.telegrams.specs.Requests.{Asking, Sent}
@@ -17,7 +17,7 @@ left_alone r p = record { row = r; place = p; sent = [] }
 abbrev pub behind_asking : Asking → Visit → Visit
 behind_asking q v = record v { sent = q ∷ v.sent }
 
--- the visit that a conversation makes; the row is told by what it comes to
+-- the visit that a dialogue makes; the row is told by what it comes to
 abbrev pub visit_by : {A : Type 0} → (A → Row) → Bool → Dialogue A → Place → Visit
 visit_by row power (comes x) p = left_alone (row x) p
 visit_by row power (asks q k) p = behind_asking q (visit_by row power (k (reply power p q)) (after power p q))

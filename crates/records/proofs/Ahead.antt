@@ -16,7 +16,7 @@ use Rattle.lists.specs.Members.{has}
 use Rattle.lists.proofs.Laws.{has_none, has_inside, has_shifted, has_rotated, Lowest, lowest_in, lowest_out, not_all}
 use Rattle.records.specs.Rows.{Row, row_at}
 use Rattle.records.specs.Records.{rows}
-use Rattle.records.specs.Ahead.{active_within, first_active, inactive_within, first_inactive}
+use Rattle.records.specs.Ahead.{active_within, first_active, FirstInactive}
 use Rattle.records.specs.declared.rows.Rows.{Rows}
 use Rattle.records.proofs.Written.{row_is, zero_inactive}
 
@@ -40,16 +40,6 @@ active_behind (suc n) a (suc z) rs inside none here =
     cond-false _ _ _ (ap (active_at rs) (omega arith) ∙ none 0 (omega arith))
     ∙ active_behind n (a + 1) z rs (omega arith) (λ k h. ap (active_at rs) (omega arith) ∙ none (k + 1) (omega arith)) (ap (active_at rs) (omega arith) ∙ here)
     ∙ ap Some (omega arith)
-
--- the first inactive one is z behind a, where 0 follows 31
-inactive_behind : (n a z : ℕ) (rs : List Row) → z < n → a < 32 → ((k : ℕ) → k < z → active_at rs ((a + k) % 32) ≡ true) → active_at rs ((a + z) % 32) ≡ false → inactive_within n a rs ≡ (a + z) % 32
-unfolding inactive_within
-inactive_behind zero a z rs inside low passed here = absurd (omega arith)
-inactive_behind (suc n) a zero rs inside low passed here = cond-false _ _ _ (ap (active_at rs) (omega arith) ∙ here) ∙ omega arith
-inactive_behind (suc n) a (suc z) rs inside low passed here =
-    cond-true _ _ _ (ap (active_at rs) (omega arith) ∙ passed 0 (omega arith))
-    ∙ inactive_behind n ((a + 1) % 32) z rs (omega arith) (omega arith) (λ k h. ap (active_at rs) (omega arith) ∙ passed (k + 1) (omega arith)) (ap (active_at rs) (omega arith) ∙ here)
-    ∙ omega arith
 
 -- the module address of this number, where it is one's
 abbrev pub module_address : ℕ → Option ℕ
@@ -134,11 +124,15 @@ module _ (r : Rows) (w a : ℕ) (is : w ≡ r.lists.las) (small : w < 2 ^ 32) wh
     free : Lowest false turned (trailing_ones w32 turned)
     free = lowest_out turned (not_all turned ((32 - a) % 32) fits (omega arith) zero_turned)
 
-    pub first_free : first_inactive a (rows r) ≡ (a + trailing_ones w32 turned) % 32
+    pub first_free : FirstInactive (rows r) a ((a + trailing_ones w32 turned) % 32)
     first_free =
-        inactive_behind 32 a (trailing_ones w32 turned) (rows r) free.inside inside
-        (λ k h. activity_turned k (omega (arith, free.inside)) ∙ free.before k h)
-        (activity_turned (trailing_ones w32 turned) free.inside ∙ free.here)
+        record {
+          passed = trailing_ones w32 turned;
+          few = free.inside;
+          there = refl;
+          inactive = activity_turned (trailing_ones w32 turned) free.inside ∙ free.here;
+          active = λ k h. activity_turned k (omega (arith, free.inside)) ∙ free.before k h;
+        }
 
 -- moved down to an address, and by one more
 pub first_behind : (r : Rows) (w a i j : ℕ) → w ≡ r.lists.las → w < 2 ^ 32 → i ≡ a → j ≡ a → module_address (j + 1 + trailing_zeros w32 (w / 2 ^ i / 2 ^ 1)) ≡ first_active (a + 1) (rows r)

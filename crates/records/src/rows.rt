@@ -2,7 +2,7 @@ ghost use Rattle.std.specs.Prelude.{◌≡◌, ◌+◌, slice_set, option_map};
 ghost use Rattle.values.specs.Refusals.{outcome};
 ghost use Rattle.records.specs.Rows.{row_at, new_rows, outputs_outcome, outputs_after, inputs_outcome, agreeing, config_ok};
 ghost use Rattle.records.specs.Records.{pair_of, rows, with_entry, detected_with, activated_with, forgotten_with};
-ghost use Rattle.records.specs.Ahead.{first_active, first_inactive};
+ghost use Rattle.records.specs.Ahead.{first_active, FirstInactive};
 ghost use Rattle.records.specs.Edits.{planned, copied, edited, taking_over};
 
 use super::entry::{Codes, Entry};
@@ -138,7 +138,7 @@ impl Rows {
     /// The first address from this one on, 0 following 31, that is not active.
     #[inline]
     pub fn first_inactive(&self, from: Address) -> Address
-        ensures { result.value ≡ first_inactive from.value (rows self.now) }
+        ensures { FirstInactive (rows self.now) from.value result.value }
     {
         let turned = self.lists.las().rotate_right(u32::from(from));
         Address::low(u32::from(from) + turned.trailing_ones())

@@ -1,20 +1,20 @@
 use Rattle.std.proofs.Common.{◌≡◌, ◌∙◌, List, sym, ap, subst}
 use Rattle.std.specs.Prelude.{option_map}
-use Rattle.std.proofs.lemmas.Option.{none-some}
 use Rattle.telegrams.specs.Requests.{Sent, sent}
 use Rattle.lines.specs.Sending.{Sends}
 use Rattle.phases.specs.Conversations.{Course}
 use Rattle.phases.proofs.Underway.{Underway, heard_on, over}
 use Rattle.master.specs.Cycles.{Card, card_of}
-use Rattle.master.specs.Turns.{Asks, before_answer}
-use Rattle.master.proofs.Turning.{course_is, turned, came_done, served_on}
+use Rattle.master.specs.Turns.{before_answer}
+use Rattle.master.proofs.Turning.{course_is, turned, came_done, served_on, asks_next}
 use Rattle.master.proofs.master.Master.cycle.Goals as goal
+
+pub loop-next-smaller : goal.loop-next-smaller
+loop-next-smaller g c = c.hear.ensures.nearer (asks_next c.loop-next.cycle.turn c.in-Some.is c.loop-next.invariant.is_next)
 
 pub loop-next-preserved : goal.loop-next-preserved
 loop-next-preserved g c =
-    let before : Card = card_of c.loop-next.self c.loop-next.queues in
-    let asked = ap (option_map sent) (sym c.in-Some.is) ∙ c.loop-next.invariant.is_next before in
-    let was_asked : Asks c.loop-next.cycle.turn = λ d none. none-some _ (sym none ∙ sym (c.loop-next.invariant.is_next d) ∙ ap (option_map sent) c.in-Some.is) in
+    let asked = ap (option_map sent) (sym c.in-Some.is) ∙ c.loop-next.invariant.is_next (card_of c.loop-next.self c.loop-next.queues) in
     record {
       powered = c.carry-reply.ensures.power ∙ c.loop-next.invariant.powered;
       phase = c.hear.ensures.phase ∙ c.loop-next.invariant.phase;
@@ -23,7 +23,7 @@ loop-next-preserved g c =
       is_next = c.next-next-in-Some.ensures;
       course =
           heard_on g.L.Line.carried _ _ _ _ _ _ _ _ _ c.loop-next.invariant.course asked c.carry-reply.ensures.carried c.loop-next.invariant.powered c.carry-reply.ensures.reply
-          c.hear.ensures.goes_on c.carry-reply.ensures.after (c.hear.ensures.counted was_asked);
+          c.hear.ensures.goes_on c.carry-reply.ensures.after (c.hear.ensures.counted (asks_next c.loop-next.cycle.turn c.in-Some.is c.loop-next.invariant.is_next));
     }
 
 pub returns : goal.returns

@@ -1,13 +1,12 @@
 -- On a line, each part of a cycle as a conversation comes to what that part does with the stations.
-use Rattle.std.proofs.Common.{◌≡◌, ℕ, ◌<◌, Bool, true, false, cond, ◌&&◌, List, [], ◌∷◌, ◌++◌, length, set, sym, refl, ap, ◌∙◌, subst, arith}
+use Rattle.std.proofs.Common.{◌≡◌, ℕ, ◌<◌, Bool, true, false, cond, List, [], ◌∷◌, ◌++◌, length, set, refl, ap, ◌∙◌, arith}
 use Rattle.std.proofs.lemmas.List.{append-nil}
 use Rattle.std.specs.Prelude.{nat_lt}
-use Rattle.telegrams.specs.Requests.{Sent, Asking, Heard}
+use Rattle.telegrams.specs.Requests.{Sent, Heard}
 use Rattle.stations.specs.Stations.{Place}
-use Rattle.values.specs.Tables.{table}
 use Rattle.values.proofs.Tables.{length-table}
-use Rattle.lines.specs.Lines.{Meaning, at}
-use Rattle.records.specs.Rows.{Row, row_at}
+use Rattle.lines.specs.Lines.{at}
+use Rattle.records.specs.Rows.{Row}
 use Rattle.records.specs.declared.record.Mode.{Mode}
 use Rattle.phases.specs.Visits.{Visit, visit_by, visit, told_by, addressed}
 use Rattle.phases.specs.Activation.{admissible}

@@ -4,7 +4,7 @@ use Rattle.std.specs.Prelude.{nat_lt}
 use Rattle.std.proofs.lemmas.List.{set-get_or, get_or-set_same, length-map, map-append}
 use Rattle.std.proofs.lemmas.Option.{none-some}
 use Rattle.std.proofs.lemmas.Bool.{cond-true, cond-false}
-use Rattle.telegrams.specs.Requests.{Sent, Heard, nibble, silence, disturbed, data_exchange, write_parameter}
+use Rattle.telegrams.specs.Requests.{Sent, Heard, nibble, silence, disturbed, write_parameter}
 use Rattle.records.specs.Rows.{Row, new_row, row_at}
 use Rattle.records.specs.declared.record.Mode.{Mode}
 use Rattle.records.specs.Ahead.{active_within, first_active}
@@ -14,7 +14,7 @@ use Rattle.phases.specs.Activation.{admissible, entered, enter_dialogue, activat
 use Rattle.phases.specs.Conversations.{Conversation, done}
 use Rattle.phases.specs.Dialogues.{Dialogue, comes, asks, whether, dialogue_at, dialogues_from}
 use Rattle.queues.specs.Fifo.{held, room, take_after, put_after, oldest_of}
-use Rattle.orders.specs.Orders.{ordered, ending, Ending, inactive, told as told_of}
+use Rattle.orders.specs.Orders.{ordered, ending, inactive, told as told_of}
 use Rattle.orders.specs.Management.{Ended, manage_dialogue, next_order}
 use Rattle.orders.specs.Queues.{waiting, uncollected, Served}
 use Rattle.orders.specs.declared.order.Order.{Order}

@@ -5,7 +5,6 @@ use Rattle.telegrams.specs.declared.request.Request.{Request}
 use Rattle.std.specs.Prelude.{option_map}
 use Rattle.lines.specs.Lines.{Meaning}
 use Rattle.stations.specs.Stations.{Place}
-use Rattle.records.specs.Rows.{Row}
 use Rattle.records.proofs.Written.{rows_sized}
 use Rattle.orders.specs.Orders.{ordered}
 use Rattle.orders.specs.declared.order.Order.{Order}
@@ -21,12 +20,12 @@ use Rattle.master.specs.Turns.{rest_of, Asks}
 use Rattle.master.specs.declared.turn.Turn.{Turn}
 use Rattle.master.specs.declared.turn.Turn.TheVariants.{Over, DetectIo, DetectId, Activate, Exchange, Manage, Seek, Name, Enter}
 use Rattle.search.proofs.Picking.{taken_inside}
-use Rattle.master.specs.Cycles.{Card, card_of, beginning, everywhere, exchange, manage, stay_offline, search_on, run, cycle, running, Became, Cycled}
+use Rattle.master.specs.Cycles.{Card, card_of, beginning, everywhere, exchange, manage, stay_offline, search_on, run, cycle, running, Cycled}
 use Rattle.master.specs.Cycling.{cycle_conversation}
 use Rattle.master.specs.declared.master.Master.{Master}
 use Rattle.master.specs.declared.master.Phase.{Phase}
 use Rattle.master.specs.declared.master.Phase.TheVariants.{Offline, Detection, Activation, Normal}
-use Rattle.master.proofs.Parts.{course_of, FirstInside, Stays, managed_stays}
+use Rattle.master.proofs.Parts.{course_of, FirstInside, managed_stays}
 use Rattle.master.proofs.Whole.{cycle_on_line}
 
 pub order_inside : (o : Order) → (ordered o).to < 32

@@ -1,5 +1,5 @@
 -- On a line, a cycle as a conversation comes to what a cycle is.
-use Rattle.std.proofs.Common.{◌≡◌, ℕ, ◌<◌, Bool, List, length, refl, ap, ◌∙◌, subst, sym}
+use Rattle.std.proofs.Common.{◌≡◌, ◌<◌, List, length, refl, ap, ◌∙◌, subst, sym}
 use Rattle.std.proofs.lemmas.List.{append-nil}
 use Rattle.telegrams.specs.Requests.{Sent}
 use Rattle.values.proofs.Tables.{length-table}
@@ -12,11 +12,11 @@ use Rattle.phases.specs.Activation.{activate_dialogue}
 use Rattle.phases.specs.Conversations.{done}
 use Rattle.search.specs.Steps.{Stage}
 use Rattle.search.specs.Searches.{taken_by}
-use Rattle.master.specs.Cycles.{Card, Scene, beginning, everywhere, exchange, manage, stay_offline, search_on, run, cycle, running}
+use Rattle.master.specs.Cycles.{Card, Scene, beginning, everywhere, exchange, manage, stay_offline, run, cycle, running}
 use Rattle.master.specs.Cycling.{managing, searching, to_phase, conversation_in, cycle_conversation}
 use Rattle.master.specs.declared.master.Phase.{Phase}
 use Rattle.master.specs.declared.master.Phase.TheVariants.{Offline, Detection, Activation, Normal}
-use Rattle.master.proofs.Parts.{course_of, FirstInside, each_on_line, managed_on_line, Stays, managed_stays, searched_on_line}
+use Rattle.master.proofs.Parts.{course_of, FirstInside, each_on_line, managed_on_line, managed_stays, searched_on_line}
 
 module _ (c : Card) (l : Meaning) (first : FirstInside c.orders) (inside : (rs : List Row) → taken_by rs c.control.step < 32) (rows_32 : length c.control.rows ≡ 32) (places_32 : length l.places ≡ 32) where
   abbrev OnLine : Phase → Type 0

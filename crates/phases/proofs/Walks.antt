@@ -1,11 +1,11 @@
 -- What a conversation comes to on a line: of a dialogue it is the visit there, and of a dialogue with each address in turn a table of visits.
-use Rattle.std.proofs.Common.{◌≡◌, ℕ, zero, suc, ◌+◌, ◌<◌, Bool, true, false, List, [], ◌∷◌, ◌++◌, length, set, sym, refl, ap, ◌∙◌, subst, add-one, arith}
+use Rattle.std.proofs.Common.{◌≡◌, ℕ, zero, suc, ◌+◌, ◌<◌, Bool, true, false, List, ◌++◌, length, set, sym, refl, ap, ◌∙◌, subst, add-one, arith}
 use Rattle.std.proofs.lemmas.List.{append_assoc, length-set, get_or-set_same, set-get_or, set-set}
-use Rattle.telegrams.specs.Requests.{Sent, Asking, Heard}
+use Rattle.telegrams.specs.Requests.{Sent, Heard}
 use Rattle.stations.specs.Stations.{Place, vacant, after, reply}
 use Rattle.lines.specs.Lines.{at}
 use Rattle.records.specs.Rows.{Row, new_row, row_at}
-use Rattle.phases.specs.Conversations.{Conversation, done, ask, Course, after_asking, on_line}
+use Rattle.phases.specs.Conversations.{Conversation, Course, after_asking, on_line}
 use Rattle.phases.specs.Dialogues.{Dialogue, comes, asks, whether, dialogue_at, dialogues_from}
 use Rattle.phases.specs.Visits.{Visit, visit_by, visit, told_by, addressed, sent_below}
 use Rattle.values.specs.Tables.{table}

@@ -5,7 +5,7 @@ use Rattle.std.specs.Int.Count.{trailing_of_zero}
 use Rattle.std.proofs.Math.Nat.{div-le_self}
 use Rattle.std.specs.Option.{option_map}
 use Rattle.std.specs.Result.{result_ok}
-use Rattle.std.proofs.lemmas.Bool.{cond-false, cond-true, both_ways, cases_eq, and_right}
+use Rattle.std.proofs.lemmas.Bool.{cond-false, cond-true, both_ways, cases_eq}
 use Rattle.std.proofs.lemmas.Bool.Decides.{nat_tests}
 use Rattle.std.proofs.lemmas.Nat.{shr-shr}
 use Rattle.values.specs.Ranges.{module_address_from}

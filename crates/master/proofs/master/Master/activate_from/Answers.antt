@@ -1,4 +1,4 @@
-use Rattle.std.proofs.Common.{◌≡◌, ◌∙◌, sym, arith}
+use Rattle.std.proofs.Common.{◌∙◌, sym, arith}
 use Rattle.master.specs.Cycles.{card_of}
 use Rattle.master.proofs.Resting.{activate_none, activate_one, activate_end}
 use Rattle.master.proofs.master.Master.activate_from.Goals as goal

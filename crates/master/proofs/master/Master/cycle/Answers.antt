@@ -1,9 +1,9 @@
-use Rattle.std.proofs.Common.{◌≡◌, ◌∙◌, List, sym, ap, subst}
+use Rattle.std.proofs.Common.{◌∙◌, List, sym, ap, subst}
 use Rattle.std.specs.Prelude.{option_map}
 use Rattle.telegrams.specs.Requests.{Sent, sent}
 use Rattle.lines.specs.Sending.{Sends}
 use Rattle.phases.specs.Conversations.{Course}
-use Rattle.phases.proofs.Underway.{Underway, heard_on, over}
+use Rattle.phases.proofs.Underway.{heard_on, over}
 use Rattle.master.specs.Cycles.{Card, card_of}
 use Rattle.master.specs.Turns.{before_answer}
 use Rattle.master.proofs.Turning.{course_is, turned, came_done, served_on, asks_next}

@@ -1,4 +1,4 @@
-use Rattle.std.proofs.Common.{◌≡◌, sym, ap, ◌∙◌, arith}
+use Rattle.std.proofs.Common.{ap, ◌∙◌, arith}
 use Rattle.phases.specs.Conversations.{done}
 use Rattle.master.specs.Cycles.{Control, card_of, with_control}
 use Rattle.master.specs.Cycling.{cycle_conversation}

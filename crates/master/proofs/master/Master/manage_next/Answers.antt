@@ -1,10 +1,8 @@
-use Rattle.std.proofs.Common.{◌≡◌, ℕ, Bool, ◌∙◌, sym, ap, arith}
-use Rattle.queues.specs.Fifo.{held, room}
-use Rattle.std.proofs.lemmas.List.{length-map}
+use Rattle.std.proofs.Common.{ℕ, ◌∙◌, sym, ap}
 use Rattle.orders.specs.Orders.{ordered}
 use Rattle.records.specs.Rows.{row_at}
 use Rattle.records.specs.Records.{rows}
-use Rattle.master.specs.Cycles.{Card, control_of, card_of}
+use Rattle.master.specs.Cycles.{control_of, card_of}
 use Rattle.master.specs.Cycling.{searching}
 use Rattle.master.proofs.Resting.{order_next, order_sent, order_idle, put_so}
 use Rattle.master.proofs.master.Master.manage_next.Goals as goal

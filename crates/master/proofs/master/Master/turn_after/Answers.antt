@@ -1,10 +1,8 @@
-use Rattle.std.proofs.Common.{◌≡◌, sym, ap, ◌∙◌, arith}
+use Rattle.std.proofs.Common.{ap}
 use Rattle.telegrams.specs.Requests.{heard}
-use Rattle.records.specs.Rows.{Row}
-use Rattle.records.specs.Records.{rows}
 use Rattle.records.proofs.Written.{rows_sized}
 use Rattle.phases.specs.Conversations.{done}
-use Rattle.master.specs.Cycles.{Card, control_of, card_of}
+use Rattle.master.specs.Cycles.{Card, control_of}
 use Rattle.master.proofs.Resting.{step_taken}
 use Rattle.master.proofs.master.Master.turn_after.Goals as goal
 

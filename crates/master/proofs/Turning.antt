@@ -1,6 +1,6 @@
 -- The loop that has a cycle with a line, turn by turn, comes to what a cycle is.
-use Rattle.std.proofs.Common.{◌≡◌, ℕ, ◌<◌, Bool, true, false, List, [], ◌∷◌, Some, None, Option, map, length, sym, refl, ap, ◌∙◌, subst, cond, not, ◌||◌}
-use Rattle.telegrams.specs.Requests.{sent}
+use Rattle.std.proofs.Common.{◌≡◌, ℕ, ◌+◌, ◌<◌, Bool, true, false, List, [], ◌∷◌, Some, None, Option, map, length, sym, refl, ap, ◌∙◌, subst, cond, not, ◌||◌}
+use Rattle.telegrams.specs.Requests.{Sent, sent}
 use Rattle.telegrams.specs.declared.request.Request.{Request}
 use Rattle.std.specs.Prelude.{option_map}
 use Rattle.lines.specs.Lines.{Meaning}
@@ -14,9 +14,12 @@ use Rattle.queues.specs.Fifo.{held}
 use Rattle.orders.specs.Queues.{Served}
 use Rattle.values.specs.Tables.{table}
 use Rattle.values.proofs.Tables.{length-table}
-use Rattle.phases.specs.Conversations.{Conversation, done, ask, question, Course, on_line}
+use Rattle.lines.specs.Sending.{Sends}
+use Rattle.phases.specs.Conversations.{Conversation, done, ask, question, Course, on_line, WentOn}
+use Rattle.phases.proofs.Underway.{Underway, begins, heard_on, over}
 use Rattle.std.proofs.lemmas.Option.{none-some}
-use Rattle.master.specs.Turns.{rest_of, Asks}
+use Rattle.master.specs.Turns.{rest_of, left, Asks, AsksNothing, before_answer, ServedBetween}
+use Rattle.master.specs.declared.engine.Cycle.{Cycle}
 use Rattle.master.specs.declared.turn.Turn.{Turn}
 use Rattle.master.specs.declared.turn.Turn.TheVariants.{Over, DetectIo, DetectId, Activate, Exchange, Manage, Seek, Name, Enter}
 use Rattle.search.proofs.Picking.{taken_inside}
@@ -47,38 +50,6 @@ cycle_power : (c : Card) (l : Meaning) → length c.control.rows ≡ 32 → leng
 unfolding cycle
 cycle_power c l rows_32 places_32 = run_power c l (running c.control l) rows_32 places_32
 
--- what the conversation of a cycle on a line came to is a cycle
-module _ (m : Master) (q : Queues) (power : Bool) (stations : ℕ → Place) where
-  abbrev c : Card
-  c = card_of m q
-
-  abbrev l : Meaning
-  l = record { power = power; places = table stations }
-
-  pub course_is : {rest : Conversation Card} {p : Phase} {powered : Bool} → powered ≡ power → p ≡ cond (m.offline || not powered) Offline m.phase → rest ≡ cycle_conversation p powered c → on_line power rest (table stations) ≡ course_of (cycle c l)
-  course_is {rest} {p} {powered} lit in_phase is =
-      ap (λ (t : Conversation Card). on_line power t (table stations))
-      (is ∙ ap (λ (b : Bool). cycle_conversation p b c) lit ∙ ap (λ (x : Phase). cycle_conversation x power c) (in_phase ∙ ap (λ (b : Bool). cond (m.offline || not b) Offline m.phase) lit))
-      ∙ cycle_on_line c l (waiting_inside (held q.orders)) (λ rs. taken_inside rs m.step) (rows_sized m.table.rows) (length-table _)
-
-  pub turned :
-      {p : Phase} {powered : Bool} {whole : Course Card} {c' : Card} {power' : Bool} {ps' : List Place} {n : ℕ}
-      → powered ≡ power → p ≡ cond (m.offline || not powered) Offline m.phase → whole ≡ course_of (cycle c l)
-      → c' ≡ whole.comes_to → power' ≡ power → ps' ≡ whole.places → n ≡ length whole.sent
-      → Cycled c l p n c' (record { power = power'; places = ps' })
-  turned {p} {powered} {whole} {c'} {power'} {ps'} {n} lit in_phase is came same places count =
-      record {
-        ran_in = in_phase ∙ ap (λ (b : Bool). cond (m.offline || not b) Offline m.phase) lit;
-        became =
-            record {
-              card_is = came ∙ ap (λ (w : Course Card). w.comes_to) is;
-              line_is =
-                  ap (λ (b : Bool). record { power = b; places = ps' }) (same ∙ sym (cycle_power c l (rows_sized m.table.rows) (length-table _)))
-                  ∙ ap (λ (ps : List Place). record { power = (cycle c l).line.power; places = ps }) (places ∙ ap (λ (w : Course Card). w.places) is);
-              counted = count ∙ ap (λ (w : Course Card). length w.sent) is;
-            };
-      }
-
 value_or : Card → Conversation Card → Card
 value_or d (done x) = x
 value_or d (ask q k) = d
@@ -108,6 +79,81 @@ served_on false {p} {q} {r} before now same kept = subst (λ (x : Queues). Serve
 pub asks_next : (t : Turn) {next : Option Request} {request : Request} → next ≡ Some request → ((d : Card) → option_map sent next ≡ question (rest_of t d)) → Asks t
 asks_next t some is d none = none-some _ (sym none ∙ sym (is d) ∙ ap (option_map sent) some)
 
+-- where none is next, nothing is
+pub none_next : {X : Type 0} (t : Turn) {next : Option Request} → next ≡ None → ((d : Card) → option_map sent next ≡ question (rest_of t d)) → Card → Asks t → X
+none_next t none is d asks = absurd (asks d (sym (is d) ∙ ap (option_map sent) none))
+
 -- where the cycle is over, nothing is asked
 pub not_over : {X : Type 0} {t : Turn} → t ≡ Over → Card → Asks t → X
 not_over over d asks = absurd (asks d (ap (λ (u : Turn). question (rest_of u d)) over))
+
+-- A cycle on a line, from its beginning to its end: master, queues and line were so as it began
+module _ {L : Type 0} (carried : L → Sent → L → Type 0) (power : L → Bool) (stations : L → ℕ → Place) (m : Master) (q : Queues) (x : L) where
+  abbrev c : Card
+  c = card_of m q
+
+  abbrev line : L → Meaning
+  line y = record { power = power y; places = table (stations y) }
+
+  abbrev whole : Course Card
+  whole = course_of (cycle c (line x))
+
+  -- what they are now, and the cycle under way
+  pub record Going (m' : Master) (q' : Queues) (k : Cycle) (y : L) : Type 0 where
+    pub powered : power y ≡ power x
+    pub phase : k.phase ≡ running c.control (line x)
+    pub served : Served q q'
+    pub early : before_answer k.turn ≡ true → q' ≡ q
+    pub course : Underway carried (power x) whole x y (left k.turn m' q') (table (stations y)) k.requests
+
+  pub going_begins :
+      {m' : Master} {q' : Queues} {k : Cycle} {powered : Bool}
+      → powered ≡ power x → k.phase ≡ cond (m.offline || not powered) Offline m.phase → k.requests ≡ 0 → left k.turn m' q' ≡ cycle_conversation k.phase powered c
+      → Served q q' → (before_answer k.turn ≡ true → q' ≡ q) → Going m' q' k x
+  going_begins {m'} {q'} {k} {powered} lit in_phase none rest served early =
+      let phase : k.phase ≡ running c.control (line x) = in_phase ∙ ap (λ (b : Bool). cond (m.offline || not b) Offline m.phase) lit in
+      let is : on_line (power x) (left k.turn m' q') (table (stations x)) ≡ whole =
+      ap (λ (r : Conversation Card). on_line (power x) r (table (stations x)))
+      (rest ∙ ap (λ (b : Bool). cycle_conversation k.phase b c) lit ∙ ap (λ (p : Phase). cycle_conversation p (power x) c) phase)
+      ∙ cycle_on_line c (line x) (waiting_inside (held q.orders)) (λ rs. taken_inside rs m.step) (rows_sized m.table.rows) (length-table _) in
+      record {
+        powered = refl;
+        phase = phase;
+        served = served;
+        early = early;
+        course = begins carried (power x) x whole (left k.turn m' q') (table (stations x)) (sym is) none;
+      }
+
+  pub going_on :
+      {m' m'' : Master} {q' q'' : Queues} {k k' : Cycle} {y z : L}
+      → Going m' q' k y → power z ≡ power y → k'.phase ≡ k.phase → ServedBetween k.turn k'.turn q' q''
+      → WentOn carried (power y) y z (table (stations y)) (table (stations z)) (left k.turn m' q') (left k'.turn m'' q'') → k'.requests ≡ k.requests + 1
+      → Going m'' q'' k' z
+  going_on {m'} {m''} {q'} {q''} {k} {k'} {y} {z} going up phase served on more =
+      record {
+        powered = up ∙ going.powered;
+        phase = phase ∙ going.phase;
+        served = served_on (before_answer k.turn) going.served served.served going.early served.late;
+        early = λ e. (served.early e).0 ∙ going.early (served.early e).1;
+        course = heard_on carried (power x) x whole y z (left k.turn m' q') (left k'.turn m'' q'') (table (stations y)) (table (stations z)) going.course going.powered on more;
+      }
+
+  pub going_ends :
+      {m' : Master} {q' : Queues} {k : Cycle} {y : L} {p : Phase} {n : ℕ} → Going m' q' k y → AsksNothing k.turn → p ≡ k.phase → n ≡ k.requests
+      → Cycled c (line x) p n (card_of m' q') (line y) × Sends carried x (cycle c (line x)).sent y
+  going_ends {m'} {q'} {k} {y} going nothing phase count =
+      let end = over carried (power x) x whole y (left k.turn m' q') (table (stations y)) k.requests going.course (nothing (card_of m' q')) in
+      let lit : power y ≡ (cycle c (line x)).line.power = going.powered ∙ sym (cycle_power c (line x) (rows_sized m.table.rows) (length-table _)) in (
+        record {
+          ran_in = phase ∙ going.phase;
+          became =
+              record {
+                card_is = came_done k.turn (card_of m' q') whole.comes_to (nothing (card_of m' q')) end.0;
+                line_is =
+                    ap (λ (b : Bool). record { power = b; places = table (stations y) }) lit
+                    ∙ ap (λ (ps : List Place). record { power = (cycle c (line x)).line.power; places = ps }) end.1;
+                counted = count ∙ end.2;
+              };
+        },
+        end.3,
+      )

@@ -55,6 +55,23 @@ impl Cycle {
         }
     }
 
+    /// Whether the request that is next is one of data exchange.
+    #[inline(always)]
+    pub(crate) fn exchanges(&self) -> bool
+        ensures { result ≡ true → Asks self.now.turn }
+    {
+        matches!(self.turn, Turn::Exchange(_, _))
+    }
+
+    /// Whether no request is next.
+    #[inline(always)]
+    pub(crate) fn is_over(&self) -> bool
+        ensures over { result ≡ true → AsksNothing self.now.turn }
+        ensures goes_on { result ≡ false → Asks self.now.turn }
+    {
+        matches!(self.turn, Turn::Over)
+    }
+
     /// The phase that it runs in, and how many of its requests have had their reply.
     pub fn report(&self) -> Report
         ensures phase { result.phase ≡ self.now.phase }
@@ -70,6 +87,7 @@ impl Cycle {
 impl Master {
     /// Begins a cycle, with power up or not. What asks nothing is done at once. The nibble that a request carries is settled when the reply before
     /// it is heard.
+    #[inline(always)]
     pub fn begin(&mut self, queues: &mut Queues, powered: bool) -> Cycle
         ensures phase { result.phase ≡ (if self.old.offline || not powered then Phase.Offline else self.old.phase) }
         ensures none { result.requests ≡ 0 }
@@ -91,6 +109,7 @@ impl Master {
     }
 
     /// The first turn of a cycle in this phase.
+    #[inline(always)]
     fn first_turn(&mut self, queues: &mut Queues, phase: Phase, powered: bool) -> Turn
         ensures rest { left result self.new queues.new ≡ cycle_conversation phase powered (card_of self.old queues.old) }
         ensures few { left_at result ≤ 64 }
@@ -246,6 +265,8 @@ impl Master {
     }
 
     /// The step of the search behind one that was taken at an address.
+    // Out of line: inlined into the loop over a cycle it would have all of the master kept in registers.
+    #[inline(never)]
     fn take_step(&mut self, at: Address, reply: Reply) -> Turn
         ensures turn { result ≡ Turn.Over }
         ensures step { control_of self.new ≡ with_step (step_after (control_of self.old).step at.value (heard reply) (admissible self.old.table.mode at.value (row_at at.value (rows self.old.table.rows)))) (control_of self.old) }

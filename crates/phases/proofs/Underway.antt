@@ -2,12 +2,12 @@
 use Rattle.std.proofs.Common.{◌≡◌, ℕ, ◌+◌, Bool, List, [], ◌∷◌, ◌++◌, length, Some, None, Option, sym, refl, ap, ◌∙◌, subst, arith}
 use Rattle.std.proofs.lemmas.List.{append-nil, append_assoc, length-append}
 use Rattle.std.proofs.lemmas.Option.{none-some}
-use Rattle.telegrams.specs.Requests.{Sent, Heard}
+use Rattle.telegrams.specs.Requests.{Sent}
 use Rattle.stations.specs.Stations.{Place}
 use Rattle.lines.specs.Lines.{line_after, line_reply}
 use Rattle.lines.specs.Sending.{Sends}
 use Rattle.lines.proofs.Sending.{sends_both}
-use Rattle.phases.specs.Conversations.{Conversation, done, ask, question, when_heard, Course, after_asking, on_line}
+use Rattle.phases.specs.Conversations.{Conversation, done, ask, question, Course, after_asking, on_line, WentOn}
 use Rattle.phases.proofs.Walks.{behind}
 
 sent_or : Sent → Option Sent → Sent
@@ -25,28 +25,27 @@ pub record Underway {L A : Type 0} (carried : L → Sent → L → Type 0) (powe
   pub same : whole ≡ behind so_far (on_line power rest ps)
   pub counted : n ≡ length so_far
 
-module _ {L A : Type 0} (carried : L → Sent → L → Type 0) (power : Bool) (x : L) where
-  pub begins : (rest : Conversation A) (ps : List Place) {n : ℕ} → n ≡ 0 → Underway carried power (on_line power rest ps) x x rest ps n
-  begins rest ps none = record { so_far = []; sends = refl; same = refl; counted = none }
+module _ {L A : Type 0} (carried : L → Sent → L → Type 0) (power : Bool) (x : L) (whole : Course A) where
+  pub begins : (rest : Conversation A) (ps : List Place) {n : ℕ} → whole ≡ on_line power rest ps → n ≡ 0 → Underway carried power whole x x rest ps n
+  begins rest ps is none = record { so_far = []; sends = refl; same = is; counted = none }
 
-  -- what is next was carried, and this was heard
+  -- what is next was carried, and the reply was heard
   pub heard_on :
-      (whole : Course A) (y z : L) (rest : Conversation A) (ps : List Place) (n : ℕ) (q : Sent)
-      {power' : Bool} {h : Heard} {rest' : Conversation A} {ps' : List Place} {n' : ℕ}
-      → Underway carried power whole x y rest ps n → Some q ≡ question rest → carried y q z
-      → power' ≡ power → h ≡ line_reply power' q ps → rest' ≡ when_heard h rest → ps' ≡ line_after power' q ps → n' ≡ n + 1
+      (y z : L) (rest rest' : Conversation A) (ps ps' : List Place) {power' : Bool} {n n' : ℕ}
+      → Underway carried power whole x y rest ps n → power' ≡ power → WentOn carried power' y z ps ps' rest rest' → n' ≡ n + 1
       → Underway carried power whole x z rest' ps' n'
-  heard_on whole y z (done a) ps n q under none sent up heard next after more = absurd (none-some q (sym none))
-  heard_on whole y z (ask p k) ps n q {power'} {h} {rest'} {ps'} under is sent up heard next after more =
+  heard_on y z (done a) rest' ps ps' under up on more = absurd (none-some on.asked (sym on.is_next))
+  heard_on y z (ask p k) rest' ps ps' under up on more =
+      let q : Sent = on.asked in
       let here : Course A = on_line power (k (line_reply power q ps)) (line_after power q ps) in
-      let left : k (line_reply power q ps) ≡ rest' = ap k (sym (heard ∙ ap (λ (b : Bool). line_reply b q ps) up)) ∙ sym next in
-      let places : line_after power q ps ≡ ps' = sym (after ∙ ap (λ (b : Bool). line_after b q ps) up) in
+      let left : k (line_reply power q ps) ≡ rest' = ap k (ap (λ (b : Bool). line_reply b q ps) (sym up)) ∙ sym on.heard in
+      let places : line_after power q ps ≡ ps' = ap (λ (b : Bool). line_after b q ps) (sym up) ∙ sym on.places in
       record {
         so_far = under.so_far ++ q ∷ [];
-        sends = sends_both carried x y z under.so_far (q ∷ []) under.sends (z, sent, refl);
+        sends = sends_both carried x y z under.so_far (q ∷ []) under.sends (z, on.sent, refl);
         same =
             under.same
-            ∙ ap (λ (p' : Sent). behind under.so_far (after_asking p' (on_line power (k (line_reply power p' ps)) (line_after power p' ps)))) (sym (same_question is))
+            ∙ ap (λ (p' : Sent). behind under.so_far (after_asking p' (on_line power (k (line_reply power p' ps)) (line_after power p' ps)))) (sym (same_question on.is_next))
             ∙ ap (λ (qs : List Sent). record here { sent = qs }) (sym (append_assoc under.so_far (q ∷ []) here.sent))
             ∙ ap (λ (r : Conversation A). behind (under.so_far ++ q ∷ []) (on_line power r (line_after power q ps))) left
             ∙ ap (λ (os : List Place). behind (under.so_far ++ q ∷ []) (on_line power rest' os)) places;
@@ -55,9 +54,9 @@ module _ {L A : Type 0} (carried : L → Sent → L → Type 0) (power : Bool) (
 
   -- nothing is next: it has come to what it comes to
   pub over :
-      (whole : Course A) (y : L) (rest : Conversation A) (ps : List Place) (n : ℕ) → Underway carried power whole x y rest ps n → question rest ≡ None
+      (y : L) (rest : Conversation A) (ps : List Place) (n : ℕ) → Underway carried power whole x y rest ps n → question rest ≡ None
       → (rest ≡ done whole.comes_to) × (ps ≡ whole.places) × (n ≡ length whole.sent) × Sends carried x whole.sent y
-  over whole y (done a) ps n under none =
+  over y (done a) ps n under none =
       let is : record { comes_to = a; places = ps; sent = under.so_far } ≡ whole =
       sym (under.same ∙ ap (λ (qs : List Sent). record { comes_to = a; places = ps; sent = qs }) (append-nil under.so_far)) in (
         ap (λ (w : Course A). done w.comes_to) is,
@@ -65,4 +64,4 @@ module _ {L A : Type 0} (carried : L → Sent → L → Type 0) (power : Bool) (
         under.counted ∙ ap (λ (w : Course A). length w.sent) is,
         subst (λ (w : Course A). Sends carried x w.sent y) is under.sends,
       )
-  over whole y (ask q k) ps n under none = absurd (none-some q (sym none))
+  over y (ask q k) ps n under none = absurd (none-some q (sym none))

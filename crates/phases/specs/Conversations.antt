@@ -2,7 +2,7 @@
 -- is said here of what a line is or does.
 -- What a conversation comes to on a line whose replies follow the rules of docs/LINES.md is `on_line`; what it asks where any replies come is
 -- `questions`.
-use Rattle.std.specs.Prelude.{ℕ, suc, Bool, List, [], ◌∷◌, Some, None, Option}
+use Rattle.std.specs.Prelude.{◌≡◌, ℕ, suc, Bool, List, [], ◌∷◌, Some, None, Option}
 use Rattle.telegrams.specs.Requests.{Sent, Heard}
 use Rattle.stations.specs.Stations.{Place}
 use Rattle.lines.specs.Lines.{line_after, line_reply}
@@ -39,3 +39,11 @@ after_asking q c = record c { sent = q ∷ c.sent }
 abbrev pub on_line : {A : Type 0} → Bool → Conversation A → List Place → Course A
 on_line power (done x) ps = record { comes_to = x; places = ps; sent = [] }
 on_line power (ask q k) ps = after_asking q (on_line power (k (line_reply power q ps)) (line_after power q ps))
+
+-- one request of it was carried by a line with this power and these stations, and the reply was heard
+pub record WentOn {L A : Type 0} (carried : L → Sent → L → Type 0) (power : Bool) (l l' : L) (ps ps' : List Place) (rest rest' : Conversation A) : Type 0 where
+  pub asked : Sent
+  pub is_next : Some asked ≡ question rest
+  pub sent : carried l asked l'
+  pub heard : rest' ≡ when_heard (line_reply power asked ps) rest
+  pub places : ps' ≡ line_after power asked ps

@@ -12,6 +12,7 @@ use Rattle.phases.specs.Dialogues.{Dialogue, comes, asks, dialogue_at}
 use Rattle.orders.specs.Orders.{ordered, Ending}
 use Rattle.orders.specs.Management.{managed, order_asking, next_order}
 use Rattle.orders.specs.Queues.{Served}
+use Rattle.orders.specs.declared.order.Order.{Order}
 use Rattle.orders.specs.declared.pair.Queues.{Queues}
 use Rattle.search.specs.Steps.{seek, name, step_after}
 use Rattle.search.specs.Searches.{Stepped, sought, called, search_dialogue}
@@ -129,21 +130,10 @@ before_answer (Seek a) = false
 before_answer (Name a n) = false
 before_answer (Enter a n) = false
 
-abbrev pub takes_order : Turn → Bool
-takes_order Over = false
-takes_order (DetectIo a) = false
-takes_order (DetectId a n) = false
-takes_order (Activate a n) = false
-takes_order (Exchange a n) = false
-takes_order (Manage o) = true
-takes_order (Seek a) = false
-takes_order (Name a n) = false
-takes_order (Enter a n) = false
-
 -- The queues are served once in a cycle: from one turn to the next they stay as they are, but where an order ends
 
 pub record ServedBetween (t t' : Turn) (q q' : Queues) : Type 0 where
   pub served : Served q q'
-  pub idle : takes_order t ≡ false → next_order q ≡ None → q' ≡ q
+  pub idle : ((o : Order) → t ≡ Manage o → ⊥) → next_order q ≡ None → q' ≡ q
   pub early : before_answer t' ≡ true → (q' ≡ q) × (before_answer t ≡ true)
   pub late : before_answer t ≡ false → q' ≡ q

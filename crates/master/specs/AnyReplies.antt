@@ -1,5 +1,5 @@
 -- What a cycle asks whatever is replied: on any wire at all, with any modules or none, and whatever disturbs them.
--- A cycle ends after at most as many requests as its phase has. A normal cycle first sends one Data_Exchange to each address that is active as it
+-- A cycle ends after at most as many requests as `most_in` gives for its phase. A normal cycle first sends one Data_Exchange to each address that is active as it
 -- begins, lowest first, with the ODI that the address has then. At most two more requests follow, and neither is a Data_Exchange: so no address
 -- is sent a second one, and an address that was not active is sent none.
 -- It is said of a cycle in which no other call is made between two requests. Nothing is said of who replies, or whether a reply suits the

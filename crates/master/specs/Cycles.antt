@@ -1,7 +1,7 @@
 -- One cycle: from a master with its queues and the line as the cycle meets it, to both afterwards and the requests that were sent.
 -- A cycle runs in one of four phases. Where the offline phase is requested or power is down it runs in the offline phase, whatever came
 -- before. Every part of a cycle is made of visits: exchange, detection and activation visit each address, management and search visit only
--- one. What is asked of one address, and what each reply makes of it, is not said here but by the conversations that the visits are made of.
+-- one. What is asked of one address, and what each reply makes of it, is not said here but by the dialogues that the visits come of.
 -- How the parts are put together Cycling.antt says for every reply that may come; that both come to the same on a line is proved
 -- (`cycle_on_line`). A reader compares `run` and the parts that it names with docs/CYCLE.md.
 use Rattle.std.specs.Prelude.{◌≡◌, ℕ, Bool, false, cond, not, ◌||◌, List, [], ◌∷◌, ◌++◌, length, ◌==◌, nat_lt}

@@ -90,7 +90,7 @@ Asks t = (c : Card) → question (rest_of t c) ≡ None → ⊥
 abbrev pub AsksNothing : Turn → Type 0
 AsksNothing t = (c : Card) → question (rest_of t c) ≡ None
 
--- While something more is asked, a reply changes nothing but the row of the address that was asked
+-- While something more is asked, a reply changes nothing of the execution control but the row of the address that was asked
 
 abbrev pub with_row : ℕ → (Row → Row) → Control → Control
 with_row a f m = with_rows (slice_set m.rows a (f (row_at a m.rows))) m

@@ -79,7 +79,7 @@ impl Master {
         ensures served { Served queues.old queues.new }
     {
         let mut cycle = self.begin(queues, line.is_powered());
-        // Data exchange is most of a cycle: asked in a loop of its own, it takes a third fewer instructions.
+        // Data exchange is most of a cycle. Asked in a loop of its own it takes fewer instructions, since the turn is known there.
         while cycle.exchanges() {
             self.ask(line, queues, &mut cycle);
         }

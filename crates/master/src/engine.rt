@@ -30,7 +30,7 @@ use values::module_address::ModuleAddress;
 use values::nibble::Nibble;
 
 /// A cycle under way. `Master::begin` gives it, `next` the request that is to be sent, `Master::hear` takes the reply; where nothing is next, the
-/// cycle is over and `report` tells what it was. It belongs to the master and the queues that it was begun with, and is void once they begin another.
+/// cycle is over and `report` tells what it was. It belongs to the master and the queues that it was begun with, and is void once the master begins another.
 #[derive(Drop)]
 pub struct Cycle {
     pub(crate) phase: Phase,
@@ -86,7 +86,7 @@ impl Cycle {
 
 impl Master {
     /// Begins a cycle, with power up or not. What asks nothing is done at once. The nibble that a request carries is settled when the reply before
-    /// it is heard.
+    /// it is heard, or as the cycle begins.
     #[inline(always)]
     pub fn begin(&mut self, queues: &mut Queues, powered: bool) -> Cycle
         ensures phase { result.phase ≡ (if self.old.offline || not powered then Phase.Offline else self.old.phase) }
@@ -98,6 +98,7 @@ impl Master {
         ensures served { Served queues.old queues.new }
         ensures early { before_answer result.turn ≡ true → queues.new ≡ queues.old }
         ensures idle { next_order queues.old ≡ None → queues.new ≡ queues.old }
+        ensures kept { (result.phase ≡ Phase.Normal → ⊥) → queues.new ≡ queues.old }
     {
         let phase = self.phase_with(powered);
         let turn = self.first_turn(queues, phase, powered);
@@ -118,6 +119,7 @@ impl Master {
         ensures early { before_answer result ≡ true → queues.new ≡ queues.old }
         ensures waits { (result ≡ Turn.Over → ⊥) → control_of self.new ≡ control_of self.old }
         ensures idle { next_order queues.old ≡ None → queues.new ≡ queues.old }
+        ensures kept { (phase ≡ Phase.Normal → ⊥) → queues.new ≡ queues.old }
     {
         match phase {
             Phase::Offline => {
@@ -265,7 +267,7 @@ impl Master {
     }
 
     /// The step of the search behind one that was taken at an address.
-    // Out of line: inlined into the loop over a cycle it would have all of the master kept in registers.
+    // Out of line: inlined into the loops over a cycle it would have all of the master kept in registers.
     #[inline(never)]
     fn take_step(&mut self, at: Address, reply: Reply) -> Turn
         ensures turn { result ≡ Turn.Over }

@@ -88,7 +88,7 @@ impl<'a> Queues<'a> {
         ensures answers { held self.new.answers ≡ put_after (room self.old.answers) (held self.old.answers) answer }
         ensures served { Served self.old self.new }
     {
-        // Neither can be refused: `next` found an order, and room for its answer.
+        // Neither is refused where `next` found the order: it waits, and its answer has room.
         let _ = self.orders.take();
         let _ = self.answers.put(answer);
     }

@@ -21,7 +21,7 @@ abbrev pub when_heard : {A : Type 0} → Heard → Conversation A → Conversati
 when_heard h (done x) = done x
 when_heard h (ask q k) = k h
 
--- what is questions where these replies come, one after another
+-- what is asked where these replies come, one after another
 abbrev pub questions : {A : Type 0} → (ℕ → Heard) → Conversation A → List Sent
 questions replies (done x) = []
 questions replies (ask q k) = q ∷ questions (λ i. replies (suc i)) (k (replies 0))

@@ -1,7 +1,7 @@
 -- A dialogue is what is said with one address: what is asked next, and for each reply how it goes on, until it has come to something. Every reply
 -- may come.
--- The rules of a cycle are dialogues, one for each part (Exchange, Detection, Activation, Management, Searches); a cycle is a conversation that
--- strings them together.
+-- The rules of a cycle are dialogues, one for each part (Exchange, Detection, Activation, Management, Searches); a cycle is a conversation
+-- that is put together of them.
 use Rattle.std.specs.Prelude.{ℕ, zero, suc, ◌+◌, Bool, cond, List, slice_set}
 use Rattle.telegrams.specs.Requests.{Asking, Heard}
 use Rattle.records.specs.Rows.{Row, row_at}

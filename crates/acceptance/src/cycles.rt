@@ -1,7 +1,7 @@
 use crate::script::*;
 use lines::line::Line;
 use lines::repeater::Repeater;
-use master::master::Master;
+use control::control::ExecutionControl;
 use orders::pair::Queues;
 use racks::bench::BenchRack;
 use racks::image_rack::ImageRack;
@@ -10,7 +10,7 @@ use std::test::*;
 
 /// The first four cycles on a line with one module, at address 3.
 fn check_first_cycles<L: Line>(rt: &impl Abort, line: &mut L) -> Result<(), Fail> {
-    let mut master = Master::new();
+    let mut master = ExecutionControl::new();
     let mut queues = Queues::over(&mut [], &mut []);
     for (letter, requests, lds, las) in [
         ('O', 0, 0, 0),

@@ -1,7 +1,7 @@
 //! What may be done with a projection and what it borrows. Each is the rightful twin of a misuse that `scripts/test-misuse` has the compiler refuse: the same lines in another order.
 use crate::script::one_module;
 use lines::line::Line;
-use master::master::Master;
+use control::control::ExecutionControl;
 use orders::pair::Queues;
 use phases::offline::clear;
 use racks::bench::BenchRack;
@@ -40,7 +40,7 @@ fn close_then_run_a_part_of_the_cycle(rt: HostRuntime) {
 }
 
 fn edit_close_and_run_a_cycle<L: Line>(
-    master: &mut Master,
+    master: &mut ExecutionControl,
     line: &mut L,
     queues: &mut Queues,
 ) -> Result<(), Refusal> {
@@ -56,7 +56,7 @@ fn close_then_run_a_cycle(rt: HostRuntime) -> Result<(), Fail> {
     let Ok(mut rack) = BenchRack::open(&one_module().words) else {
         return Err(Fail::new("good image refused"));
     };
-    let mut master = Master::new();
+    let mut master = ExecutionControl::new();
     let mut queues = Queues::over(&mut [], &mut []);
     let edited = edit_close_and_run_a_cycle(&mut master, &mut rack, &mut queues);
     assert!(rt; edited.is_ok());

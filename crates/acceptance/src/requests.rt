@@ -4,7 +4,7 @@ ghost use Rattle.std.specs.Prelude.{◌≡◌, ◌+◌, ◌-◌, ◌^◌, min};
 
 use crate::script::*;
 use lines::line::Line;
-use master::master::{Master, Phase};
+use control::control::{ExecutionControl, Phase};
 use orders::pair::Queues;
 use racks::bench::BenchRack;
 use stations::image::{IMAGE_WORDS, POWER_UP};
@@ -47,7 +47,7 @@ impl<L: Line> Line for Recorder<L> {
 }
 
 /// The words of the Data_Exchanges that are due, lowest address first; how many they are.
-fn due(master: &Master, words: &mut [u32; KEPT]) -> usize {
+fn due(master: &ExecutionControl, words: &mut [u32; KEPT]) -> usize {
     let mut count = 0;
     for a in 0..31u32 {
         let to = ModuleAddress::nth(a);
@@ -66,7 +66,7 @@ fn due(master: &Master, words: &mut [u32; KEPT]) -> usize {
 /// Runs one cycle: the line is given as many requests as the cycle reports, and in a normal one first the exchanges that are due, in order.
 fn check_cycle<L: Line>(
     rt: &impl Abort,
-    master: &mut Master,
+    master: &mut ExecutionControl,
     line: &mut Recorder<L>,
     queues: &mut Queues,
 ) -> Phase {
@@ -102,7 +102,7 @@ fn requests_sent(rt: HostRuntime) -> Result<(), Fail> {
     let mut orders = [any_answer().order; 2];
     let mut answers = [any_answer(); 2];
     let mut queues = Queues::over(&mut orders, &mut answers);
-    let mut master = Master::new();
+    let mut master = ExecutionControl::new();
     let mut normal = 0u32;
     for k in 0..200u32 {
         let _ = master.place_reset(&mut queues, k % 31 + 1);

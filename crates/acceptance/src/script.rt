@@ -1,6 +1,6 @@
 //! Scripts of calls on a new master on an image rack, each call with what it is to come to.
-use master::cycle::Report;
-use master::master::{Listing, Master};
+use control::cycle::Report;
+use control::control::{Listing, ExecutionControl};
 use orders::order::{Answer, Order, Unanswered};
 use orders::pair::Queues;
 use racks::image_rack::ImageRack;
@@ -197,7 +197,7 @@ fn packed(entry: Entry) -> (u32, u8) {
 #[derive(Drop)]
 struct Session<'a> {
     words: [u32; IMAGE_WORDS],
-    master: Master,
+    master: ExecutionControl,
     queues: Queues<'a>,
 }
 
@@ -321,7 +321,7 @@ pub(crate) fn follow(rt: &impl Abort, start: Start, rows: &[Row]) -> Result<(), 
     assert!(rt; start.order_room <= ROOM && start.answer_room <= ROOM);
     let mut session = Session {
         words: start.words,
-        master: Master::new(),
+        master: ExecutionControl::new(),
         queues: Queues::over(
             &mut order_slots[0..start.order_room],
             &mut answer_slots[0..start.answer_room],

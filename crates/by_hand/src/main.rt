@@ -8,8 +8,8 @@ ghost use Rattle.std.specs.Prelude.{◌≡◌, ◌↔◌, ℕ, IsNone, IsSomeAnd
 ghost use Rattle.telegrams.specs.Requests.{heard, silence, nibble};
 ghost use Rattle.telegrams.specs.Words.{ReplyOf};
 
-use master::cycle::Report;
-use master::master::Master;
+use control::cycle::Report;
+use control::control::ExecutionControl;
 use orders::pair::Queues;
 use std::io;
 use telegrams::request::{Reply, Request};
@@ -36,7 +36,7 @@ fn reply_of(word: Option<u32>) -> Reply
 /// Runs one cycle: the master says what to send, the wire carries it, and the master hears what came back.
 fn run_cycle(
     rt: &impl Print,
-    master: &mut Master,
+    master: &mut ExecutionControl,
     queues: &mut Queues,
     wire: &mut Wire,
 ) -> io::Result<Report> {
@@ -80,7 +80,7 @@ fn print_exchange(rt: &impl Print, request: Request, reply: Reply) -> io::Result
     rt.println("")
 }
 
-fn print_cycle(rt: &impl Print, number: u32, report: Report, master: &Master) -> io::Result<()> {
+fn print_cycle(rt: &impl Print, number: u32, report: Report, master: &ExecutionControl) -> io::Result<()> {
     let letter = report.phase.letter();
     let requests = report.requests;
     let lists = master.read_lists();
@@ -90,7 +90,7 @@ fn print_cycle(rt: &impl Print, number: u32, report: Report, master: &Master) ->
 }
 
 fn main(rt: HostRuntime) -> io::Result<()> {
-    let mut master = Master::new();
+    let mut master = ExecutionControl::new();
     // No order is placed, so the queues need no places.
     let mut queues = Queues::over(&mut [], &mut []);
     let mut wire = Wire::new();

@@ -1,7 +1,7 @@
 ghost use Rattle.std.specs.Prelude.{◌≡◌};
 ghost use Rattle.exports.specs.Counting.{counted};
 
-use master::master::Master;
+use control::control::ExecutionControl;
 use orders::pair::Queues;
 use racks::bench::BenchRack;
 
@@ -14,7 +14,7 @@ pub extern "C" fn asi_cycles(words: &[u32], cycles: u32) -> u32
         Ok(bench) => bench,
         Err(refusal) => return u32::from(refusal.number()),
     };
-    let mut master = Master::new();
+    let mut master = ExecutionControl::new();
     let mut queues = Queues::over(&mut [], &mut []);
     let mut sent = 0u32;
     for _done in 0..cycles {

@@ -1,4 +1,4 @@
-use master::master::{Listing, Master, Phase};
+use control::control::{Listing, ExecutionControl, Phase};
 use orders::order::{Answer, Order, Unanswered};
 use orders::pair::Queues;
 use records::record::Mode;
@@ -106,7 +106,7 @@ fn row_word(rows: &Rows, address: Address) -> u32 {
 pub(crate) fn logged_word(
     k: usize,
     came: &[u32; 7],
-    master: &Master,
+    master: &ExecutionControl,
     queues: &Queues,
     words: &[u32],
 ) -> u32 {

@@ -5,7 +5,7 @@ use super::logged::{LOG_WORDS, logged_word, outcome_words};
 use super::script::{CALL_WORDS, EDITS, Entry};
 use lines::line::Line;
 use lines::repeater::Repeater;
-use master::master::Master;
+use control::control::ExecutionControl;
 use orders::order::{Answer, Order, Unanswered};
 use orders::pair::Queues;
 use racks::bench::BenchRack;
@@ -43,7 +43,7 @@ fn alter(words: &mut [u32], place: usize, word: u32) {
 fn repeated<L: Line>(
     below: L,
     call: Call<'_>,
-    master: &mut Master,
+    master: &mut ExecutionControl,
     queues: &mut Queues,
 ) -> (L, Outcome) {
     let mut line = Repeater::over(below);
@@ -56,7 +56,7 @@ fn on_bench(
     repeaters: u32,
     mut bench: BenchRack,
     call: Call<'_>,
-    master: &mut Master,
+    master: &mut ExecutionControl,
     queues: &mut Queues,
 ) -> (BenchRack, Outcome) {
     match repeaters {
@@ -82,7 +82,7 @@ fn on_line(
     line: u32,
     call: Call<'_>,
     words: &mut [u32],
-    master: &mut Master,
+    master: &mut ExecutionControl,
     queues: &mut Queues,
 ) -> Result<Outcome, Refusal> {
     if line > 3 {
@@ -117,7 +117,7 @@ fn replay_next<'a>(
     line: u32,
     script: &'a [u32],
     words: &mut [u32],
-    master: &mut Master,
+    master: &mut ExecutionControl,
     queues: &mut Queues,
     logged: &mut [u32],
 ) -> Option<&'a [u32]>
@@ -164,7 +164,7 @@ pub extern "C" fn asi_replay(
         &mut order_slots[..room(order_room)],
         &mut answer_slots[..room(answer_room)],
     );
-    let mut master = Master::new();
+    let mut master = ExecutionControl::new();
     if test_image(words).is_err() {
         return 0;
     }

@@ -5,7 +5,7 @@ use Rattle.std.specs.Prelude.{ℕ, cond, List, [], ◌∷◌}
 use Rattle.values.specs.Refusals.{Outcome, gives, refuses, refuses_for}
 use Rattle.stations.specs.Images.{image_from, good_image, powered_in, place_at}
 use Rattle.lines.specs.Lines.{meaning}
-use Rattle.master.specs.Cycles.{new_card}
+use Rattle.control.specs.Cycles.{new_master}
 use Rattle.runs.specs.Outcomes.{Came}
 use Rattle.runs.specs.Runs.{undisturbed}
 use Rattle.runs.specs.declared.call.Call.{Call}
@@ -15,7 +15,7 @@ abbrev pub script : List Call
 script = Cycle ∷ ReadLists ∷ Cycle ∷ ReadLists ∷ Cycle ∷ ReadLists ∷ Cycle ∷ ReadLists ∷ []
 
 abbrev pub listed_words : Outcome (List ℕ) → Outcome (List Came)
-listed_words (gives ws) = cond (good_image ws) (gives (undisturbed script (meaning (powered_in ws) (place_at ws)) (new_card 0 0))) (refuses 0x8313)
+listed_words (gives ws) = cond (good_image ws) (gives (undisturbed script (meaning (powered_in ws) (place_at ws)) (new_master 0 0))) (refuses 0x8313)
 listed_words (refuses_for n c) = refuses_for n c
 
 -- another number of bytes, or words that are no good image, are refused with 8313

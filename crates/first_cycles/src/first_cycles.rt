@@ -2,7 +2,7 @@ ghost use Rattle.std.specs.Prelude.{◌≡◌, map};
 ghost use Rattle.values.specs.Refusals.{outcome};
 ghost use Rattle.lines.specs.Lines.{meaning};
 ghost use Rattle.lines.specs.Sending.{Sends};
-ghost use Rattle.master.specs.Cycles.{new_card};
+ghost use Rattle.control.specs.Cycles.{new_master};
 ghost use Rattle.runs.specs.Outcomes.{came};
 ghost use Rattle.runs.specs.Runs.{undisturbed, sent_undisturbed, line_undisturbed};
 ghost use Rattle.first_cycles.specs.Listed.{script, listed};
@@ -32,9 +32,9 @@ const SCRIPT: [Call<'static>; CALLS] = [
 
 /// Four cycles of a new master, each followed by a reading of the lists.
 pub fn on_line<L: Line>(line: &mut L) -> [Outcome; CALLS]
-    ensures came_to { map came result ≡ undisturbed script (meaning (L.power line.old) (L.stations line.old)) (new_card 0 0) }
-    ensures sends { Sends L.carried line.old (sent_undisturbed script (meaning (L.power line.old) (L.stations line.old)) (new_card 0 0)) line.new }
-    ensures left { meaning (L.power line.new) (L.stations line.new) ≡ line_undisturbed script (meaning (L.power line.old) (L.stations line.old)) (new_card 0 0) }
+    ensures came_to { map came result ≡ undisturbed script (meaning (L.power line.old) (L.stations line.old)) (new_master 0 0) }
+    ensures sends { Sends L.carried line.old (sent_undisturbed script (meaning (L.power line.old) (L.stations line.old)) (new_master 0 0)) line.new }
+    ensures left { meaning (L.power line.new) (L.stations line.new) ≡ line_undisturbed script (meaning (L.power line.old) (L.stations line.old)) (new_master 0 0) }
 {
     let mut log = [Ok(Given::Nothing); CALLS];
     // No order is placed, so the queues need no places.

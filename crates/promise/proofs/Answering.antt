@@ -8,9 +8,9 @@ use Rattle.std.proofs.lemmas.Bool.{both_ways, false≢true}
 use Rattle.values.specs.Refusals.{Outcome, gives, refuses_for, accepts}
 use Rattle.telegrams.specs.Requests.{Sent}
 use Rattle.orders.specs.Orders.{Told}
-use Rattle.master.specs.Placing.{is_normal}
+use Rattle.control.specs.Placing.{is_normal}
 use Rattle.lines.specs.Lines.{Meaning}
-use Rattle.master.specs.Cycles.{Card, new_card, beginning, exchange, running, cycle}
+use Rattle.control.specs.Cycles.{Master, new_master, beginning, exchange, running, cycle}
 use Rattle.promise.specs.Successions.{Placement, order_from, Call, placing, Turn, cycling, calling, placing_outcome, called, after}
 use Rattle.promise.specs.Answering.{order_in, accepted_by_call, accepted_by, put_by, answered_by, collected_by_call, collected_by, FirstCome, Numbered, is_normal_cycle, numbered_cycles, AnswersIt, InTurn, AnsweredInTurn}
 use Rattle.promise.proofs.Queues.{Room, Puts, answer_to, cycle_puts, idle_puts, normal_puts, call_serves, room_cycle, room_call, room_after}
@@ -21,10 +21,10 @@ orders_of xs = map (λ x. x.order) xs
 -- First in, first out
 
 -- the orders that wait and then those accepted are those answered and then those that wait afterwards
-answered_all : (p : List Turn) (c : Card) → c.orders ++ accepted_by c p ≡ orders_of (answered_by c p) ++ (after p c).orders
+answered_all : (p : List Turn) (c : Master) → c.orders ++ accepted_by c p ≡ orders_of (answered_by c p) ++ (after p c).orders
 answered_all [] c = append-nil c.orders
 answered_all (cycling line ∷ p) c =
-    let c' = (cycle c line).card in
+    let c' = (cycle c line).master in
     ap (λ (os : List Sent). os ++ accepted_by c' p) (cycle_puts c line).orders_are
     ∙ append_assoc (orders_of (put_by c line)) c'.orders (accepted_by c' p)
     ∙ ap (λ (os : List Sent). orders_of (put_by c line) ++ os) (answered_all p c')
@@ -36,10 +36,10 @@ answered_all (calling k ∷ p) c =
     ∙ answered_all p (called k c)
 
 -- the same of the answers that are uncollected
-collected_all : (p : List Turn) (c : Card) → c.answers ++ answered_by c p ≡ collected_by c p ++ (after p c).answers
+collected_all : (p : List Turn) (c : Master) → c.answers ++ answered_by c p ≡ collected_by c p ++ (after p c).answers
 collected_all [] c = append-nil c.answers
 collected_all (cycling line ∷ p) c =
-    let c' = (cycle c line).card in
+    let c' = (cycle c line).master in
     sym (append_assoc c.answers (put_by c line) (answered_by c' p))
     ∙ ap (λ (xs : List Told). xs ++ answered_by c' p) (sym (cycle_puts c line).answers_are)
     ∙ collected_all p c'
@@ -50,35 +50,35 @@ collected_all (calling k ∷ p) c =
     ∙ ap (λ (xs : List Told). collected_by_call k c ++ xs) (collected_all p c')
     ∙ sym (append_assoc (collected_by_call k c) (collected_by c' p) (after p c').answers)
 
-pub first_in_first_out : (order_room answer_room : ℕ) (p : List Turn) → FirstCome (new_card order_room answer_room) p
+pub first_in_first_out : (order_room answer_room : ℕ) (p : List Turn) → FirstCome (new_master order_room answer_room) p
 first_in_first_out order_room answer_room p =
-    let new = new_card order_room answer_room in
+    let new = new_master order_room answer_room in
     record { answered_in_order = answered_all p new; collected_in_order = collected_all p new }
 
 -- In turn
 
 module _ (k n : ℕ) (o : Sent) where
-  abbrev Turns : ℕ → ℕ → Card → List Turn → Type 0
+  abbrev Turns : ℕ → ℕ → Master → List Turn → Type 0
   Turns i m c q = AllByRecursion (InTurn k n o) (numbered_cycles i m c q)
 
   -- after its answer was put, no cycle answers the order
-  past : (q : List Turn) (i m : ℕ) (c : Card) → k < i → n < m → Turns i m c q
+  past : (q : List Turn) (i m : ℕ) (c : Master) → k < i → n < m → Turns i m c q
   past [] i m c later put = tt
   past (calling x ∷ q) i m c later put = past q i m (called x c) later put
   past (cycling line ∷ q) i m c later put = (
     record { in_time = λ normal e. absurd (omega arith); in_no_other = λ z. absurd (omega (arith, z.not_before)) },
-    past q (i + cond (is_normal (running c.control line)) 1 0) (m + length (put_by c line)) (cycle c line).card (omega arith) (omega arith),
+    past q (i + cond (is_normal (running c.control line)) 1 0) (m + length (put_by c line)) (cycle c line).master (omega arith) (omega arith),
   )
 
   -- the order waits behind these in c, where i normal cycles came since it was accepted and m answers were put
-  record Waiting (i m : ℕ) (c : Card) (os : List Sent) : Type 0 where
+  record Waiting (i m : ℕ) (c : Master) (os : List Sent) : Type 0 where
     rest : List Sent
     queue : c.orders ≡ os ++ o ∷ rest
     room : Room c
     number : m + length os ≡ n
     turn : i + length os ≡ k
 
-  waiting_call : (x : Call) (i m : ℕ) (c : Card) (os : List Sent) → Waiting i m c os → Waiting i m (called x c) os
+  waiting_call : (x : Call) (i m : ℕ) (c : Master) (os : List Sent) → Waiting i m c os → Waiting i m (called x c) os
   waiting_call x i m c os w =
       record {
         rest = w.rest ++ accepted_by_call x c;
@@ -88,12 +88,12 @@ module _ (k n : ℕ) (o : Sent) where
         turn = w.turn;
       }
 
-  module _ (c : Card) (line : Meaning) (i m : ℕ) (q : List Turn) where
-    abbrev next : Card
-    next = (cycle c line).card
+  module _ (c : Master) (line : Meaning) (i m : ℕ) (q : List Turn) where
+    abbrev next : Master
+    next = (cycle c line).master
 
     abbrev now : Numbered
-    now = record { met = record { card = c; line = line }; normal_before = i; answers_before = m }
+    now = record { met = record { master = c; line = line }; normal_before = i; answers_before = m }
 
     abbrev one_more : ℕ
     one_more = i + cond (is_normal_cycle now.met) 1 0
@@ -156,24 +156,24 @@ module _ (k n : ℕ) (o : Sent) where
               }),
         )
 
-  in_turn : (q : List Turn) (i m : ℕ) (c : Card) (os : List Sent) → Waiting i m c os → Turns i m c q
+  in_turn : (q : List Turn) (i m : ℕ) (c : Master) (os : List Sent) → Waiting i m c os → Turns i m c q
   in_turn [] i m c os w = tt
   in_turn (calling x ∷ q) i m c os w = in_turn q i m (called x c) os (waiting_call x i m c os w)
   in_turn (cycling line ∷ q) i m c os w =
       in_turn_cycle c line i m q (is_normal (running c.control line)) os refl w
-      (in_turn q (i + cond (is_normal (running c.control line)) 1 0) (m + length (put_by c line)) (cycle c line).card)
+      (in_turn q (i + cond (is_normal (running c.control line)) 1 0) (m + length (put_by c line)) (cycle c line).master)
 
 -- an accepted order joins those that wait
-joins : (w : Placement) (o : Sent) (c : Card) → order_from w ≡ gives o → accepts (placing_outcome (order_from w) c) ≡ true → (called (placing w) c).orders ≡ c.orders ++ o ∷ []
+joins : (w : Placement) (o : Sent) (c : Master) → order_from w ≡ gives o → accepts (placing_outcome (order_from w) c) ≡ true → (called (placing w) c).orders ≡ c.orders ++ o ∷ []
 joins w o c makes accepted = (call_serves (placing w) c).orders_are ∙ ap (λ (l : List Sent). c.orders ++ l) (by (order_from w) (placing_outcome (order_from w) c) makes accepted)
   where
     by : (x : Outcome Sent) (y : Outcome (Unit {0})) → x ≡ gives o → accepts y ≡ true → order_in x y ≡ o ∷ []
     by x (gives u) e a = ap (λ (z : Outcome Sent). order_in z (gives u)) e
     by x (refuses_for n m) e a = absurd (false≢true a)
 
-pub answered_in_turn : (order_room answer_room : ℕ) (p q : List Turn) (w : Placement) → AnsweredInTurn (new_card order_room answer_room) p w q
+pub answered_in_turn : (order_room answer_room : ℕ) (p q : List Turn) (w : Placement) → AnsweredInTurn (new_master order_room answer_room) p w q
 answered_in_turn order_room answer_room p q w o makes accepted =
-    let new = new_card order_room answer_room in
+    let new = new_master order_room answer_room in
     let c = after p new in
     let answered = answered_by new p in
     let counted : length (accepted_by new p) ≡ length (orders_of answered) + length c.orders =

@@ -11,9 +11,9 @@ use Rattle.phases.specs.Visits.{Visit, left_alone}
 use Rattle.phases.specs.Detection.{found, detect_visit}
 use Rattle.phases.specs.Activation.{admissible, joining, enter_visit, activate_visit}
 use Rattle.search.specs.Steps.{seek}
-use Rattle.master.specs.declared.master.Phase.{Phase}
-use Rattle.master.specs.declared.master.Phase.TheVariants.{Offline, Detection, Activation, Normal}
-use Rattle.master.specs.Cycles.{Card, Scene, new_card, beginning, everywhere, phased, held_off, stay_offline, run, cycle}
+use Rattle.control.specs.declared.control.Phase.{Phase}
+use Rattle.control.specs.declared.control.Phase.TheVariants.{Offline, Detection, Activation, Normal}
+use Rattle.control.specs.Cycles.{Master, Scene, new_master, beginning, everywhere, phased, held_off, stay_offline, run, cycle}
 use Rattle.promise.specs.Successions.{Turn, cycling, calling, called, after, Met, cycles}
 use Rattle.promise.specs.Waiting.{done, sent_to, exchanges, resets, codes_of, with_inputs, Admitted, Stays, Unaltered, LeftInPlace, Exchanged, WaitingBound}
 use Rattle.promise.proofs.Sees.{Moment, Sees, visiting, entering, sees_beginning, sees_phased, sees_visit, first_moment}
@@ -29,7 +29,7 @@ use Rattle.promise.proofs.Serving.{Meeting, Served, served, normal_step}
 record Left (b n : ℕ) (s : Scene) : Type 0 where
   state : State
   there : at s.line.places b ≡ occupied state
-  within : Within b n (view b s.card.control) (codes_of state) state.enabled
+  within : Within b n (view b s.master.control) (codes_of state) state.enabled
 
 left_seen : (b n : ℕ) (s : Scene) (m : Moment) (x : State) → Sees b s m → m.place ≡ occupied x →
     Within b n (view_of m.phase m.step m.row) (codes_of x) x.enabled → Left b n s
@@ -42,8 +42,8 @@ left_seen b n s m x see holds within =
 
 -- A cycle that meets the admitted module x
 module _
-    (b : ℕ) (one : 1 ≤ b) (hb : b < 32) (c : Card) (line : Meaning) (x : State) (kept : Kept b c)
-    (adm : Admitted b (record { card = c; line = line }) x)
+    (b : ℕ) (one : 1 ≤ b) (hb : b < 32) (c : Master) (line : Meaning) (x : State) (kept : Kept b c)
+    (adm : Admitted b (record { master = c; line = line }) x)
   where
     abbrev r : Row
     r = row_at b c.control.rows
@@ -117,7 +117,7 @@ module _
             state = x;
             there = adm.there;
             within =
-                subst (λ (t : Bool). WithinIn (cond t Offline Detection) b n (view b (stay_offline start).card.control) (codes_of x) x.enabled)
+                subst (λ (t : Bool). WithinIn (cond t Offline Detection) b n (view b (stay_offline start).master.control) (codes_of x) x.enabled)
                 (sym not_held) (omega arith);
           }
 
@@ -180,7 +180,7 @@ module _
 
     -- With none left, the module is exchanged, and none is left afterwards
     abbrev Exchanging : Type 0
-    Exchanging = Exchanged b (record { card = c; line = line }) × Left b 0 (cycle c line)
+    Exchanging = Exchanged b (record { master = c; line = line }) × Left b 0 (cycle c line)
 
     exchanged_by : c.control.phase ≡ Normal → Served b (run Normal start) c.control.mode r x → Exchanging
     exchanged_by e z = (
@@ -195,7 +195,7 @@ module _
         replied =
             ap₂ (λ (p : Bool) (q : Place). reply p q (data_exchange r.odi)) adm.powered adm.there
             ∙ z.heard
-            ∙ ap (λ (t : Row). nibble t.idi) (sym (ap (λ (s : Scene). row_at b s.card.control.rows) is_run ∙ z.see.row_is));
+            ∙ ap (λ (t : Row). nibble t.idi) (sym (ap (λ (s : Scene). row_at b s.master.control.rows) is_run ∙ z.see.row_is));
       },
       subst (Left b 0) (sym is_run) (left_seen b 0 (run Normal start) _ z.state z.see refl (serving z.active z.enabled)),
     )
@@ -232,21 +232,21 @@ meets_left b d (f ∷ ds) x e left = left x e
 
 -- All cycles of a succession, with n left
 module _ (b : ℕ) (one : 1 ≤ b) (hb : b < 32) where
-  bounded : (q : List Turn) (n : ℕ) (c : Card) (x : State) → Kept b c → Within b n (view b c.control) (codes_of x) x.enabled →
+  bounded : (q : List Turn) (n : ℕ) (c : Master) (x : State) → Kept b c → Within b n (view b c.control) (codes_of x) x.enabled →
       AllByRecursion (Stays b) (cycles c q) → Meets b x (cycles c q) → LeftInPlace b (cycles c q) → AllByRecursion (Exchanged b) (drop n (cycles c q))
   bounded [] n c x kept within stays meets left = All-drop (Exchanged b) n [] tt
   bounded (cycling line ∷ ts) zero c x kept within stays meets left =
-      let d : Met = record { card = c; line = line } in
+      let d : Met = record { master = c; line = line } in
       let adm = met_module b d x stays.0.0 meets.0 stays.0.1 meets.1 in
       let z = exchanged_cycle b one hb c line (with_inputs meets.0 x) kept adm within in
-      let on = meets_left b d (cycles (cycle c line).card ts) z.1.state z.1.there left.0 in
-      (z.0, bounded ts zero (cycle c line).card z.1.state (kept_cycle b hb c line kept) z.1.within stays.1 on left.1)
+      let on = meets_left b d (cycles (cycle c line).master ts) z.1.state z.1.there left.0 in
+      (z.0, bounded ts zero (cycle c line).master z.1.state (kept_cycle b hb c line kept) z.1.within stays.1 on left.1)
   bounded (cycling line ∷ ts) (suc n) c x kept within stays meets left =
-      let d : Met = record { card = c; line = line } in
+      let d : Met = record { master = c; line = line } in
       let adm = met_module b d x stays.0.0 meets.0 stays.0.1 meets.1 in
       let z = left_cycle b one hb c line (with_inputs meets.0 x) kept adm n within in
-      let on = meets_left b d (cycles (cycle c line).card ts) z.state z.there left.0 in
-      bounded ts n (cycle c line).card z.state (kept_cycle b hb c line kept) z.within stays.1 on left.1
+      let on = meets_left b d (cycles (cycle c line).master ts) z.state z.there left.0 in
+      bounded ts n (cycle c line).master z.state (kept_cycle b hb c line kept) z.within stays.1 on left.1
   bounded (calling k ∷ ts) n c x kept within stays meets left =
       bounded ts n (called k c) x (kept_call b hb k c kept)
       (subst (λ (v : View). Within b n v (codes_of x) x.enabled) (sym (keeps_call b hb k c)) within) stays meets left
@@ -256,10 +256,10 @@ module _ (b : ℕ) (one : 1 ≤ b) (hb : b < 32) where
   first_module [] stays = (record { io = 0; id = 0; inputs = 0; outputs = 0; parameter = 0; direction = 0; enabled = false; disturbance = 0 }, tt)
   first_module (d ∷ ds) stays = (stays.0.0, (stays.0.0.inputs, stays.0.1.there))
 
-pub waiting_bound : (order_room answer_room : ℕ) (p q : List Turn) → WaitingBound (after p (new_card order_room answer_room)) q
+pub waiting_bound : (order_room answer_room : ℕ) (p q : List Turn) → WaitingBound (after p (new_master order_room answer_room)) q
 waiting_bound order_room answer_room p q b one hb stays =
-    let c = after p (new_card order_room answer_room) in
-    let kept = kept_after b hb p (new_card order_room answer_room) (kept_new b hb order_room answer_room) in
+    let c = after p (new_master order_room answer_room) in
+    let kept = kept_after b hb p (new_master order_room answer_room) (kept_new b hb order_room answer_room) in
     let x = first_module b one hb (cycles c q) stays.admitted in
     bounded b one hb q 97 c x.0 kept
     (within_start b one hb c.control.phase (view b c.control) (codes_of x.0) x.0.enabled refl kept.0)

@@ -9,8 +9,8 @@ use Rattle.records.specs.Edits.{Edit, projecting, unprojecting, taking_over, pla
 use Rattle.records.specs.declared.record.Mode.{Mode}
 use Rattle.records.specs.declared.record.Mode.TheVariants.{Configuration}
 use Rattle.search.specs.Steps.{Stage}
-use Rattle.master.specs.declared.master.Phase.{Phase}
-use Rattle.master.specs.Cycles.{Card}
+use Rattle.control.specs.declared.control.Phase.{Phase}
+use Rattle.control.specs.Cycles.{Master}
 use Rattle.promise.specs.Successions.{Call, all_edited, called}
 use Rattle.promise.specs.Successions.{placing, collecting, writing_outputs, reading_inputs, reading_lists, setting_mode, setting_offline, editing, projecting_all}
 use Rattle.promise.proofs.Within.{View, view, view_of}
@@ -56,7 +56,7 @@ module _ (b : ℕ) (h : b < 32) (phase : Phase) (step : Stage) where
   seen_edits [] rs = refl
   seen_edits (e ∷ es) rs = seen_edits es (edit_after Configuration e rs) ∙ seen_edit Configuration e rs
 
-pub keeps_call : (b : ℕ) → b < 32 → (k : Call) (c : Card) → view b (called k c).control ≡ view b c.control
+pub keeps_call : (b : ℕ) → b < 32 → (k : Call) (c : Master) → view b (called k c).control ≡ view b c.control
 keeps_call b h (placing w) c = refl
 keeps_call b h collecting c = refl
 keeps_call b h (writing_outputs a n) c = seen_outputs b h c.control.phase c.control.step a n c.control.rows

@@ -12,7 +12,7 @@ use Rattle.orders.specs.Orders.{Ending}
 use Rattle.orders.specs.Management.{manage_visit}
 use Rattle.search.specs.Steps.{Stage}
 use Rattle.search.specs.Searches.{search_visit, taken_by, next_step}
-use Rattle.master.specs.Cycles.{Scene, everywhere, only, exchange, ending_at, answered, carry_out, manage_by, manage, search_from, search_on}
+use Rattle.control.specs.Cycles.{Scene, everywhere, only, exchange, ending_at, answered, carry_out, manage_by, manage, search_from, search_on}
 use Rattle.promise.proofs.Sees.{Moment, Sees, visiting, stepped, sees_visit, sees_left, sees_stepping}
 use Rattle.promise.proofs.Visits.{only_same, only_other}
 
@@ -83,23 +83,23 @@ module _ (b : ℕ) (h : b < 32) (s : Scene) (m : Moment) (see : Sees b s m) wher
   managed_by : (os : List Sent) → Orderly os → Managed b (manage_by os s) m
   managed_by [] fit = idle see
   managed_by (o ∷ rest) fit =
-      elim (ltb (length s.card.answers) s.card.answer_room) as (λ t. Managed b (cond t (carry_out o rest s) s) m)
+      elim (ltb (length s.master.answers) s.master.answer_room) as (λ t. Managed b (cond t (carry_out o rest s) s) m)
       [ true ↦ carried o rest fit.0 | false ↦ idle see ]
 
-  pub managed : Orderly s.card.orders → Managed b (manage s) m
+  pub managed : Orderly s.master.orders → Managed b (manage s) m
   unfolding manage
-  managed fit = managed_by s.card.orders fit
+  managed fit = managed_by s.master.orders fit
 
 -- The search
 
 -- the address that the search takes at this moment
 abbrev pub taken : Scene → Moment → ℕ
-taken s m = taken_by s.card.control.rows m.step
+taken s m = taken_by s.master.control.rows m.step
 
 -- the step that follows
 abbrev pub next_after : Scene → Moment → Stage
 next_after s m =
-    next_step s.card.control.mode s.line.power m.step (taken s m) (row_at (taken s m) s.card.control.rows) (at s.line.places (taken s m))
+    next_step s.master.control.mode s.line.power m.step (taken s m) (row_at (taken s m) s.master.control.rows) (at s.line.places (taken s m))
 
 searches : (b : ℕ) (s : Scene) (m : Moment) → Sees b s m → search_on s ≡ search_from m.step s
 unfolding search_on
@@ -107,7 +107,7 @@ searches b s m see = ap (λ (t : Stage). search_from t s) see.step_is
 
 module _ (b : ℕ) (h : b < 32) (s : Scene) (m : Moment) (see : Sees b s m) where
   abbrev visit : Row → Place → Visit
-  visit = search_visit s.card.control.mode s.line.power m.step (taken s m)
+  visit = search_visit s.master.control.mode s.line.power m.step (taken s m)
 
   pub sees_search_other : (b ≡ taken s m → ⊥) → Sees b (search_on s) (stepped (next_after s m) m)
   sees_search_other ne =

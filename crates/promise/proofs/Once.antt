@@ -15,8 +15,8 @@ use Rattle.phases.specs.Activation.{admissible, enter_visit}
 use Rattle.orders.specs.Management.{manage_visit}
 use Rattle.search.specs.Steps.{Stage, seek, name, enter}
 use Rattle.search.specs.Searches.{search_visit, taken_by}
-use Rattle.master.specs.declared.master.Phase.TheVariants.{Normal}
-use Rattle.master.specs.Cycles.{Card, Scene, new_card, beginning, everywhere, only, visit_made, exchange, carry_out, manage_by, manage, search_on, run, running, cycle}
+use Rattle.control.specs.declared.control.Phase.TheVariants.{Normal}
+use Rattle.control.specs.Cycles.{Master, Scene, new_master, beginning, everywhere, only, visit_made, exchange, carry_out, manage_by, manage, search_on, run, running, cycle}
 use Rattle.promise.specs.Successions.{Turn, after}
 use Rattle.promise.specs.Waiting.{sent_to, exchanges}
 use Rattle.promise.specs.Once.{OnceEach}
@@ -111,7 +111,7 @@ module _ (c : ℕ) (visit : Row → Place → Visit) (s : Scene) (quiet : Quiet 
 
   silent_at : (a : ℕ) → exchanges (asked_at a) ≡ []
   silent_at a =
-      cond_both (eqb a c) (visit (row_at a s.card.control.rows) (at s.line.places a)) (left_alone (row_at a s.card.control.rows) (at s.line.places a))
+      cond_both (eqb a c) (visit (row_at a s.master.control.rows) (at s.line.places a)) (left_alone (row_at a s.master.control.rows) (at s.line.places a))
       (λ (v : Visit). exchanges v.sent ≡ []) (λ _. quiet.silent _ _) (λ _. refl)
 
   one_asked : length (sent_below 32 asked_at) ≤ 1
@@ -131,21 +131,21 @@ module _ (c : ℕ) (visit : Row → Place → Visit) (s : Scene) (quiet : Quiet 
             ∙ append-nil (exchanged_with b s.sent);
       }
 
-little_manage : (s : Scene) → Orderly s.card.orders → Little s (manage s)
+little_manage : (s : Scene) → Orderly s.master.orders → Little s (manage s)
 unfolding manage
-little_manage s fit = by s.card.orders fit
+little_manage s fit = by s.master.orders fit
   where
     by : (os : List Sent) → Orderly os → Little s (manage_by os s)
     by [] q = little_same s
     by (o ∷ rest) q =
         let z = little_only o.to (manage_visit s.line.power o.asking) s (quiet_manage s.line.power o.asking q.0) in
-        elim (ltb (length s.card.answers) s.card.answer_room) as (λ t. Little s (cond t (carry_out o rest s) s))
+        elim (ltb (length s.master.answers) s.master.answer_room) as (λ t. Little s (cond t (carry_out o rest s) s))
         [ true ↦ record { few = z.few; none = z.none } | false ↦ little_same s ]
 
 little_search : (s : Scene) → Little s (search_on s)
 unfolding search_on
 little_search s =
-    let m = s.card.control in
+    let m = s.master.control in
     let b = taken_by m.rows m.step in
     let z = little_only b (search_visit m.mode s.line.power m.step b) s (quiet_search m.mode s.line.power m.step b) in
     record { few = z.few; none = z.none }
@@ -156,7 +156,7 @@ cond_under : {A B : Type 0} (t : Bool) (x y : A) (f : A → B) → f (cond t x y
 cond_under true x y f = refl
 cond_under false x y f = refl
 
-module _ (c : Card) (line : Meaning) (stands : Standing c) where
+module _ (c : Master) (line : Meaning) (stands : Standing c) where
   abbrev row : ℕ → Row
   row a = row_at a c.control.rows
 
@@ -185,7 +185,7 @@ module _ (c : Card) (line : Meaning) (stands : Standing c) where
       exchanged_below exchanged_at b _ (λ h. ap exchanges (exchange_sends b) ∙ cond_under (row b).active _ _ exchanges)
       (λ h. sym (ap (λ (r : Row). cond r.active (r.odi ∷ []) []) (beyond_idle b h)))
 
-once_normal : (c : Card) (line : Meaning) → Standing c → running c.control line ≡ Normal → OnceEach c line
+once_normal : (c : Master) (line : Meaning) → Standing c → running c.control line ≡ Normal → OnceEach c line
 unfolding cycle everywhere
 once_normal c line stands normal =
     let exchanged = exchange (beginning c line) in
@@ -198,5 +198,5 @@ once_normal c line stands normal =
           subst (λ (s : Scene). length s.sent ≤ 33) (sym is) (omega (arith, m.few, z.few, exchange_at_most c line stands));
     }
 
-pub exchanges_once : (order_room answer_room : ℕ) (p : List Turn) (line : Meaning) → running (after p (new_card order_room answer_room)).control line ≡ Normal → OnceEach (after p (new_card order_room answer_room)) line
-exchanges_once order_room answer_room p line normal = once_normal (after p (new_card order_room answer_room)) line (stands order_room answer_room p) normal
+pub exchanges_once : (order_room answer_room : ℕ) (p : List Turn) (line : Meaning) → running (after p (new_master order_room answer_room)).control line ≡ Normal → OnceEach (after p (new_master order_room answer_room)) line
+exchanges_once order_room answer_room p line normal = once_normal (after p (new_master order_room answer_room)) line (stands order_room answer_room p) normal

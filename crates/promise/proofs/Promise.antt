@@ -1,13 +1,13 @@
 -- The promise holds of every succession from new.
 use Rattle.std.proofs.Common.{ℕ, List}
-use Rattle.master.specs.Cycles.{new_card}
+use Rattle.control.specs.Cycles.{new_master}
 use Rattle.promise.specs.Successions.{Turn}
 use Rattle.promise.specs.Promise.{Promise}
 use Rattle.promise.proofs.Bound.{waiting_bound}
 use Rattle.promise.proofs.Once.{exchanges_once}
 use Rattle.promise.proofs.Answering.{answered_in_turn, first_in_first_out}
 
-pub promised : (order_room answer_room : ℕ) (ts : List Turn) → Promise (new_card order_room answer_room) ts
+pub promised : (order_room answer_room : ℕ) (ts : List Turn) → Promise (new_master order_room answer_room) ts
 promised order_room answer_room ts =
     record {
       waiting_bound = λ p q r cut. waiting_bound order_room answer_room p q;

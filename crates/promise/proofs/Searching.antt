@@ -11,8 +11,8 @@ use Rattle.phases.specs.Detection.{found}
 use Rattle.phases.specs.Activation.{admissible, joining, enter_visit}
 use Rattle.search.specs.Steps.{Stage, seek, name, enter, following, pick, step_after}
 use Rattle.search.specs.Searches.{search_visit}
-use Rattle.master.specs.declared.master.Phase.TheVariants.{Normal}
-use Rattle.master.specs.Cycles.{Scene, search_on}
+use Rattle.control.specs.declared.control.Phase.TheVariants.{Normal}
+use Rattle.control.specs.Cycles.{Scene, search_on}
 use Rattle.promise.specs.Waiting.{codes_of, ProjectedSo}
 use Rattle.promise.proofs.Sees.{Moment, Sees, visiting, stepped}
 use Rattle.promise.proofs.Visits.{reply_calm, enter_calm, seek_calm, name_calm, admissible_known, admissible_not_zero, so_like}
@@ -24,12 +24,12 @@ use Rattle.promise.proofs.Tending.{ready}
 
 -- An active address is passed by
 
-pub search_passes : (b : ℕ) → b < 32 → (s : Scene) (m : Moment) → (row_at 0 s.card.control.rows).active ≡ false → Sees b s m →
+pub search_passes : (b : ℕ) → b < 32 → (s : Scene) (m : Moment) → (row_at 0 s.master.control.rows).active ≡ false → Sees b s m →
     m.row.active ≡ true → Fine b m.row.active m.step →
     Sees b (search_on s) (stepped (next_after s m) m)
 search_passes b hb s m zero_off see on fine =
     sees_search_other b hb s m see
-    (λ to. both_ways m.row.active (taken_off b m.row s.card.control.rows m.step zero_off fine see.row_is to) on)
+    (λ to. both_ways m.row.active (taken_off b m.row s.master.control.rows m.step zero_off fine see.row_is to) on)
 
 -- How the search goes on from another address c
 
@@ -137,11 +137,11 @@ module _
     -- Seeking
 
     seeking_from : (a : ℕ) → Sees b s (ready mode (seek a) r x qs) →
-        Picked (λ k. Far b k (suc n)) s.card.control.rows (pick s.card.control.rows a) → Result
+        Picked (λ k. Far b k (suc n)) s.master.control.rows (pick s.master.control.rows a) → Result
     seeking_from a see found = ⊎_elim here elsewhere (cases_eq b c)
       where
         c : ℕ
-        c = pick s.card.control.rows a
+        c = pick s.master.control.rows a
 
         here : b ≡ c → Result
         here to =
@@ -161,14 +161,14 @@ module _
     pub searching : {step : Stage} → Sees b s (ready mode step r x qs) → Ahead b (suc n) (codes_of x) r.cdi step → Result
     searching see (seeks {a} h far) =
         seeking_from a see
-        (picks (λ k. Far b k (suc n)) s.card.control.rows b hb (ap (λ (t : Row). t.active) see.row_is ∙ off)
+        (picks (λ k. Far b k (suc n)) s.master.control.rows b hb (ap (λ (t : Row). t.active) see.row_is ∙ off)
         (λ k l ne f. far_skip hb l ne f) 32 a h (near_any b a hb h) far)
     searching see (names {c} {k} h ne far) =
         let m = ready mode (name c k) r x qs in
-        let there = row_at c s.card.control.rows in
-        let made = search_visit s.card.control.mode s.line.power (name c k) c there (at s.line.places c) in
+        let there = row_at c s.master.control.rows in
+        let made = search_visit s.master.control.mode s.line.power (name c k) c there (at s.line.places c) in
         seeking_on (next_after s m) r qs (sees_search_other b hb s m see (λ e. ne (sym e))) off
-        (named_elsewhere b one hb n (codes_of x) r.cdi c h ne c k _ _ (admissible_not_zero s.card.control.mode c made.row) far)
+        (named_elsewhere b one hb n (codes_of x) r.cdi c h ne c k _ _ (admissible_not_zero s.master.control.mode c made.row) far)
     searching see (names_known {c} {k} e known l) = naming_known c k (sym e) known see l
     searching see (names_unknown {c} {k} e l) = naming k (admissible mode b (known_by k)) (named c k (sym e) see) l
     searching see (enters {c} h o ne far) =

@@ -9,8 +9,8 @@ use Rattle.records.specs.Rows.{Row, row_at, new_row}
 use Rattle.records.specs.declared.record.Mode.{Mode}
 use Rattle.phases.specs.Visits.{Visit, left_alone, sent_below}
 use Rattle.search.specs.Steps.{Stage}
-use Rattle.master.specs.declared.master.Phase.{Phase}
-use Rattle.master.specs.Cycles.{Card, Scene, beginning, everywhere, visit_made, stepping, phased}
+use Rattle.control.specs.declared.control.Phase.{Phase}
+use Rattle.control.specs.Cycles.{Master, Scene, beginning, everywhere, visit_made, stepping, phased}
 use Rattle.promise.specs.Waiting.{sent_to}
 use Rattle.promise.proofs.Sending.{sent-to-append, sent_to_below}
 
@@ -27,11 +27,11 @@ pub record Moment : Type 0 where
 
 pub record Sees (b : ℕ) (s : Scene) (m : Moment) : Type 0 where
   pub power_is : s.line.power ≡ m.power
-  pub offline_is : s.card.control.offline ≡ m.offline
-  pub mode_is : s.card.control.mode ≡ m.mode
-  pub phase_is : s.card.control.phase ≡ m.phase
-  pub step_is : s.card.control.step ≡ m.step
-  pub row_is : row_at b s.card.control.rows ≡ m.row
+  pub offline_is : s.master.control.offline ≡ m.offline
+  pub mode_is : s.master.control.mode ≡ m.mode
+  pub phase_is : s.master.control.phase ≡ m.phase
+  pub step_is : s.master.control.step ≡ m.step
+  pub row_is : row_at b s.master.control.rows ≡ m.row
   pub place_is : at s.line.places b ≡ m.place
   pub sent_is : sent_to b s.sent ≡ m.sent
 
@@ -49,7 +49,7 @@ entering p m = record m { phase = p }
 
 -- The start of a cycle
 
-abbrev pub first_moment : ℕ → Card → Meaning → Moment
+abbrev pub first_moment : ℕ → Master → Meaning → Moment
 first_moment b c line =
     record {
       power = line.power;
@@ -62,7 +62,7 @@ first_moment b c line =
       sent = [];
     }
 
-pub sees_beginning : (b : ℕ) (c : Card) (line : Meaning) → Sees b (beginning c line) (first_moment b c line)
+pub sees_beginning : (b : ℕ) (c : Master) (line : Meaning) → Sees b (beginning c line) (first_moment b c line)
 unfolding sent_to
 sees_beginning b c line =
     record { power_is = refl; offline_is = refl; mode_is = refl; phase_is = refl; step_is = refl; row_is = refl; place_is = refl; sent_is = refl }

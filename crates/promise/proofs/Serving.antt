@@ -9,8 +9,8 @@ use Rattle.records.specs.declared.record.Mode.{Mode}
 use Rattle.phases.specs.Visits.{left_alone}
 use Rattle.phases.specs.Exchange.{with_data, dropped, missed, exchange_visit}
 use Rattle.search.specs.Steps.{Stage}
-use Rattle.master.specs.declared.master.Phase.TheVariants.{Normal}
-use Rattle.master.specs.Cycles.{Scene, exchange, manage, search_on}
+use Rattle.control.specs.declared.control.Phase.TheVariants.{Normal}
+use Rattle.control.specs.Cycles.{Scene, exchange, manage, search_on}
 use Rattle.promise.specs.Waiting.{exchanges, codes_of, ProjectedSo}
 use Rattle.promise.proofs.Sees.{Sees, stepped}
 use Rattle.promise.proofs.Visits.{exchange_served, exchange_heard, exchange_missed, exchange_off, by_misses, so_like}
@@ -27,8 +27,8 @@ pub record Meeting (b : ℕ) (s : Scene) (mode : Mode) (step : Stage) (r : Row) 
   pub calm : x.disturbance ≡ 0
   pub small : x.io < 15
   pub so : ProjectedSo mode r x
-  pub orderly : Orderly s.card.orders
-  pub zero_off : (row_at 0 (manage (exchange s)).card.control.rows).active ≡ false
+  pub orderly : Orderly s.master.orders
+  pub zero_off : (row_at 0 (manage (exchange s)).master.control.rows).active ≡ false
   pub none : NoReset b (search_on (manage (exchange s)))
   pub few : r.misses < limit
   pub fine : Fine b r.active step

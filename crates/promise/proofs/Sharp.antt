@@ -19,10 +19,10 @@ use Rattle.phases.specs.Activation.{admissible, enter_visit}
 use Rattle.phases.specs.Exchange.{exchange_visit}
 use Rattle.search.specs.Steps.{Stage, seek, name, enter, pick_within}
 use Rattle.search.specs.Searches.{search_visit, taken_by}
-use Rattle.master.specs.Placing.{is_normal}
-use Rattle.master.specs.declared.master.Phase.{Phase}
-use Rattle.master.specs.declared.master.Phase.TheVariants.{Offline, Detection, Activation, Normal}
-use Rattle.master.specs.Cycles.{Card, Scene, new_control, new_card, beginning, visit_made, only, exchange, run, running, everywhere, manage_by, manage, search_on, stay_offline, cycle}
+use Rattle.control.specs.Placing.{is_normal}
+use Rattle.control.specs.declared.control.Phase.{Phase}
+use Rattle.control.specs.declared.control.Phase.TheVariants.{Offline, Detection, Activation, Normal}
+use Rattle.control.specs.Cycles.{Master, Scene, new_control, new_master, beginning, visit_made, only, exchange, run, running, everywhere, manage_by, manage, search_on, stay_offline, cycle}
 use Rattle.promise.specs.Successions.{Turn, cycling, calling, setting_mode, editing, called, after, Met, cycles}
 use Rattle.promise.specs.Waiting.{sent_to, exchanges, resets, codes_of, ProjectedSo, Stays, StaysPlugged, Unaltered, LeftInPlace, row_met, done}
 use Rattle.promise.proofs.Bound.{waiting_bound}
@@ -32,49 +32,49 @@ use Rattle.promise.specs.Sharp.{lawful, is_protected, lines_met, MeetsAsLeft, Un
 
 -- A line that is left as it is: each cycle meets what the one before it left
 
-staying : ℕ → Card → Meaning → List Turn
+staying : ℕ → Master → Meaning → List Turn
 staying zero c line = []
-staying (suc n) c line = cycling line ∷ staying n (cycle c line).card (cycle c line).line
+staying (suc n) c line = cycling line ∷ staying n (cycle c line).master (cycle c line).line
 
-abbrev met : Card → Meaning → Met
-met c line = record { card = c; line = line }
+abbrev met : Master → Meaning → Met
+met c line = record { master = c; line = line }
 
-length-staying : (n : ℕ) (c : Card) (line : Meaning) → length (cycles c (staying n c line)) ≡ n
+length-staying : (n : ℕ) (c : Master) (line : Meaning) → length (cycles c (staying n c line)) ≡ n
 unfolding staying
 length-staying zero c line = refl
-length-staying (suc n) c line = ap suc (length-staying n (cycle c line).card (cycle c line).line)
+length-staying (suc n) c line = ap suc (length-staying n (cycle c line).master (cycle c line).line)
 
-unaltered_staying : (b n : ℕ) (d : Met) (c : Card) → Unaltered b d (cycles c (staying n c (done d).line))
+unaltered_staying : (b n : ℕ) (d : Met) (c : Master) → Unaltered b d (cycles c (staying n c (done d).line))
 unfolding staying
 unaltered_staying b zero d c = tt
 unaltered_staying b (suc n) d c = λ x there. (x.inputs, there)
 
-left_staying : (b n : ℕ) (c : Card) (line : Meaning) → LeftInPlace b (cycles c (staying n c line))
+left_staying : (b n : ℕ) (c : Master) (line : Meaning) → LeftInPlace b (cycles c (staying n c line))
 unfolding staying
 left_staying b zero c line = tt
-left_staying b (suc n) c line = (unaltered_staying b n (met c line) (cycle c line).card, left_staying b n (cycle c line).card (cycle c line).line)
+left_staying b (suc n) c line = (unaltered_staying b n (met c line) (cycle c line).master, left_staying b n (cycle c line).master (cycle c line).line)
 
-untouched_first : (n : ℕ) (d : Met) (c : Card) → MeetsAsLeft d (cycles c (staying n c (done d).line))
+untouched_first : (n : ℕ) (d : Met) (c : Master) → MeetsAsLeft d (cycles c (staying n c (done d).line))
 unfolding staying
 untouched_first zero d c = tt
 untouched_first (suc n) d c = refl
 
-untouched_staying : (n : ℕ) (c : Card) (line : Meaning) → Untouched (cycles c (staying n c line))
+untouched_staying : (n : ℕ) (c : Master) (line : Meaning) → Untouched (cycles c (staying n c line))
 unfolding staying
 untouched_staying zero c line = tt
-untouched_staying (suc n) c line = (untouched_first n (met c line) (cycle c line).card, untouched_staying n (cycle c line).card (cycle c line).line)
+untouched_staying (suc n) c line = (untouched_first n (met c line) (cycle c line).master, untouched_staying n (cycle c line).master (cycle c line).line)
 
 -- What a normal cycle sends to b where no order waits
 
 abbrev searching : Scene → ℕ → Row → Place → Visit
 searching s =
-    let m = s.card.control in
+    let m = s.master.control in
     let a = taken_by m.rows m.step in
     only a (search_visit m.mode s.line.power m.step a)
 
 abbrev asks : ℕ → Met → List Asking
 asks b d =
-    let s = beginning d.card d.line in
+    let s = beginning d.master d.line in
     (visit_made (λ a. exchange_visit d.line.power) s b).sent ++ (visit_made (searching (exchange s)) (exchange s) b).sent
 
 abbrev none_waits : List Sent → Bool
@@ -82,7 +82,7 @@ none_waits [] = true
 none_waits (o ∷ os) = false
 
 abbrev undisturbed_by_orders : Met → Bool
-undisturbed_by_orders d = is_normal (running d.card.control d.line) && none_waits d.card.orders
+undisturbed_by_orders d = is_normal (running d.master.control d.line) && none_waits d.master.orders
 
 asked_everywhere : (visit : ℕ → Row → Place → Visit) (s : Scene) (b : ℕ) → b < 32 → sent_to b (everywhere visit s).sent ≡ sent_to b s.sent ++ (visit_made visit s b).sent
 unfolding everywhere
@@ -96,13 +96,13 @@ asked_in b d = sent_to b (done d).sent
 asked_are : (b : ℕ) → b < 32 → (d : Met) → undisturbed_by_orders d ≡ true → asked_in b d ≡ asks b d
 unfolding cycle sent_to manage search_on everywhere
 asked_are b h d e =
-    let both = and_parts (is_normal (running d.card.control d.line)) (none_waits d.card.orders) e in
-    let s = exchange (beginning d.card d.line) in
-    ap (λ (t : Scene). sent_to b t.sent) (by (running d.card.control d.line) both.0 ∙ ap search_on (unmanaged d.card.orders s both.1))
+    let both = and_parts (is_normal (running d.master.control d.line)) (none_waits d.master.orders) e in
+    let s = exchange (beginning d.master d.line) in
+    ap (λ (t : Scene). sent_to b t.sent) (by (running d.master.control d.line) both.0 ∙ ap search_on (unmanaged d.master.orders s both.1))
     ∙ asked_everywhere (searching s) s b h
-    ∙ ap (λ (l : List Asking). l ++ (visit_made (searching s) s b).sent) (asked_everywhere (λ a. exchange_visit d.line.power) (beginning d.card d.line) b h)
+    ∙ ap (λ (l : List Asking). l ++ (visit_made (searching s) s b).sent) (asked_everywhere (λ a. exchange_visit d.line.power) (beginning d.master d.line) b h)
   where
-    by : (p : Phase) → is_normal p ≡ true → run p (beginning d.card d.line) ≡ run Normal (beginning d.card d.line)
+    by : (p : Phase) → is_normal p ≡ true → run p (beginning d.master d.line) ≡ run Normal (beginning d.master d.line)
     by Offline n = absurd (false≢true n)
     by Detection n = absurd (false≢true n)
     by Activation n = absurd (false≢true n)
@@ -126,7 +126,7 @@ harmless_search mode power (enter k) a r p =
 
 harmless_searching : (s : Scene) (b : ℕ) → Harmless (visit_made (searching s) s b).sent
 harmless_searching s b =
-    let m = s.card.control in
+    let m = s.master.control in
     let a = taken_by m.rows m.step in
     let r = row_at b m.rows in
     let p = at s.line.places b in
@@ -135,7 +135,7 @@ harmless_searching s b =
 
 module _ (b : ℕ) (d : Met) where
   abbrev exchanged : Scene
-  exchanged = exchange (beginning d.card d.line)
+  exchanged = exchange (beginning d.master d.line)
 
   abbrev searched : List Asking
   searched = (visit_made (searching exchanged) exchanged b).sent
@@ -157,8 +157,8 @@ projected_so Protected r x = r.projected && same_codes r.pcd (codes_of x)
 abbrev admits : ℕ → Met → State → Bool
 admits b d x =
     d.line.power
-    && (not d.card.control.offline
-    && (eqb x.disturbance 0 && (ltb x.io 15 && projected_so d.card.control.mode (row_met b d) x)))
+    && (not d.master.control.offline
+    && (eqb x.disturbance 0 && (ltb x.io 15 && projected_so d.master.control.mode (row_met b d) x)))
 
 abbrev admits_at : ℕ → Met → Place → Bool
 admits_at b d vacant = false
@@ -200,9 +200,9 @@ stays_at b d (occupied x) there never e =
     )
 
 -- the same of n cycles on a line that is left as it is
-waits : ℕ → ℕ → Card → Meaning → Bool
+waits : ℕ → ℕ → Master → Meaning → Bool
 waits b zero c line = true
-waits b (suc n) c line = waits_in b n (met c line) && waits b n (cycle c line).card (cycle c line).line
+waits b (suc n) c line = waits_in b n (met c line) && waits b n (cycle c line).master (cycle c line).line
 
 module _ (b : ℕ) (h : b < 32) where
   stays : (n : ℕ) (d : Met) → waits_in b n d ≡ true → Stays b d
@@ -215,20 +215,20 @@ module _ (b : ℕ) (h : b < 32) where
       let both = and_parts (undisturbed_by_orders d) _ e in
       ap exchanges (asked_are b h d both.0) ∙ asks_no_exchange b d (not-true _ (and_parts _ _ both.1).1)
 
-  abbrev Waits : ℕ → Card → Meaning → Type 0
+  abbrev Waits : ℕ → Master → Meaning → Type 0
   Waits n c line = waits b n c line ≡ true
 
-  stay_all : (n : ℕ) (c : Card) (line : Meaning) → Waits n c line → AllByRecursion (Stays b) (cycles c (staying n c line))
+  stay_all : (n : ℕ) (c : Master) (line : Meaning) → Waits n c line → AllByRecursion (Stays b) (cycles c (staying n c line))
   unfolding staying waits
   stay_all zero c line e = tt
   stay_all (suc n) c line e =
-      (stays n (met c line) (and_parts _ _ e).0, stay_all n (cycle c line).card (cycle c line).line (and_parts _ _ e).1)
+      (stays n (met c line) (and_parts _ _ e).0, stay_all n (cycle c line).master (cycle c line).line (and_parts _ _ e).1)
 
-  pass_all : (n : ℕ) (c : Card) (line : Meaning) → Waits (suc n) c line → AllByRecursion (PassesBy b) (take n (cycles c (staying (suc n) c line)))
+  pass_all : (n : ℕ) (c : Master) (line : Meaning) → Waits (suc n) c line → AllByRecursion (PassesBy b) (take n (cycles c (staying (suc n) c line)))
   unfolding staying waits
   pass_all zero c line e = tt
   pass_all (suc n) c line e =
-      (passes n (met c line) (and_parts _ _ e).0, pass_all n (cycle c line).card (cycle c line).line (and_parts _ _ e).1)
+      (passes n (met c line) (and_parts _ _ e).0, pass_all n (cycle c line).master (cycle c line).line (and_parts _ _ e).1)
 
 -- The succession
 
@@ -247,25 +247,25 @@ module _ (b : ℕ) where
   all_lawful = list_all lawful (lines_met before)
 
 module _ (order_room answer_room b : ℕ) where
-  abbrev new : Card
-  new = new_card order_room answer_room
+  abbrev new : Master
+  new = new_master order_room answer_room
 
   -- from plugging on: the second cycle is in protected mode, and from the third on nothing happens but cycles
 
-  abbrev first : Card
+  abbrev first : Master
   first = after (before b) new
 
   abbrev first_done : Scene
   first_done = cycle first full
 
-  abbrev second : Card
-  second = called (setting_mode Protected) first_done.card
+  abbrev second : Master
+  second = called (setting_mode Protected) first_done.master
 
   abbrev second_done : Scene
   second_done = cycle second first_done.line
 
-  abbrev third : Card
-  third = called (setting_mode Configuration) second_done.card
+  abbrev third : Master
+  third = called (setting_mode Configuration) second_done.master
 
   abbrev following : List Turn
   following =

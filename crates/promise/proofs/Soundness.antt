@@ -1,4 +1,4 @@
--- What holds of every card that was new once, and is needed of it: its search is sound at b, address 0 is inactive, and the orders that
+-- What holds of every master that was new once, and is needed of it: its search is sound at b, address 0 is inactive, and the orders that
 -- wait are a parameter's or a reset.
 use Rattle.std.proofs.Common.{◌≡◌, ℕ, ◌<◌, Bool, true, false, cond, ◌&&◌, ltb, List, [], ◌∷◌, ◌++◌, length, sym, refl, ap, ◌∙◌, subst, ⊎_elim, arith}
 use Rattle.std.proofs.ByRecursion.{All-push}
@@ -17,10 +17,10 @@ use Rattle.phases.specs.Activation.{admissible, enter_visit, activate_visit}
 use Rattle.orders.specs.Management.{manage_visit}
 use Rattle.search.specs.Steps.{Stage, seek, name, enter, pick, step_after}
 use Rattle.search.specs.Searches.{search_visit, taken_by, deciding, next_step}
-use Rattle.master.specs.declared.master.Phase.{Phase}
-use Rattle.master.specs.declared.master.Phase.TheVariants.{Offline, Detection, Activation, Normal}
-use Rattle.master.specs.Cycles.{Card, Scene, new_control, new_card, beginning, everywhere, exchange, carry_out, manage_by, manage, search_on}
-use Rattle.master.specs.Cycles.{phased, held_off, stay_offline, run, cycle}
+use Rattle.control.specs.declared.control.Phase.{Phase}
+use Rattle.control.specs.declared.control.Phase.TheVariants.{Offline, Detection, Activation, Normal}
+use Rattle.control.specs.Cycles.{Master, Scene, new_control, new_master, beginning, everywhere, exchange, carry_out, manage_by, manage, search_on}
+use Rattle.control.specs.Cycles.{phased, held_off, stay_offline, run, cycle}
 use Rattle.promise.specs.Successions.{Placement, parameter, reset, order_from, Call, Turn, cycling, calling, waiting_after, placing_outcome, called, turned, after}
 use Rattle.promise.specs.Successions.{placing, collecting, writing_outputs, reading_inputs, reading_lists, setting_mode, setting_offline, editing, projecting_all}
 use Rattle.promise.proofs.Sees.{Moment, Sees, visiting, entering, first_moment, sees_beginning, sees_everywhere, sees_phased}
@@ -43,7 +43,7 @@ pub record Shows (b : ℕ) (s : Scene) (m : Moment) : Type 0 where
   pub see : Sees b s (showing row place sent m)
   pub mild : Milder m.row row
 
-pub orders_kept : (v : ℕ → Row → Place → Visit) (s : Scene) → (everywhere v s).card.orders ≡ s.card.orders
+pub orders_kept : (v : ℕ → Row → Place → Visit) (s : Scene) → (everywhere v s).master.orders ≡ s.master.orders
 unfolding everywhere
 orders_kept v s = refl
 
@@ -61,7 +61,7 @@ module _ (b : ℕ) (h : b < 32) (s : Scene) (m : Moment) (see : Sees b s m) wher
         mild = (λ e. more.0 (mild.0 e), λ e. more.1 (mild.1 e));
       }
 
-  pub before_search : Orderly s.card.orders → Shows b (manage (exchange s)) m
+  pub before_search : Orderly s.master.orders → Shows b (manage (exchange s)) m
   before_search fit =
       let made = exchange_visit m.power m.row m.place in
       shows_managed (manage (exchange s)) made (milder_exchange m.power m.row m.place)
@@ -124,71 +124,71 @@ module _ (mode : Mode) (power : Bool) (r : Row) (p : Place) where
 
 -- what is sound at a moment, from what is seen
 sound_seen : {b : ℕ} {s : Scene} {m : Moment} → Sees b s m → m.row.misses < limit → Fine b m.row.active m.step →
-    Starting m.phase m.step m.row.active → Sound b (view b s.card.control)
+    Starting m.phase m.step m.row.active → Sound b (view b s.master.control)
 sound_seen {b} {s} {m} see few fine starting =
     subst (Sound b) (sym (sees_view see)) (record { few = few; fine = fine; starting = starting })
 
 any_start : (p : Phase) (step : Stage) (on : Bool) → p ≡ Normal → Starting p step on
 any_start p step on e = subst (λ (p : Phase). Starting p step on) (sym e) tt
 
-module _ (s : Scene) (off : (row_at 0 s.card.control.rows).active ≡ false) where
+module _ (s : Scene) (off : (row_at 0 s.master.control.rows).active ≡ false) where
   pub search_sound : (b : ℕ) → b < 32 → (m : Moment) → Sees b s m → m.phase ≡ Normal → m.row.misses < limit → Fine b m.row.active m.step →
-      Sound b (view b (search_on s).card.control)
+      Sound b (view b (search_on s).master.control)
   search_sound b h m see normal few fine = ⊎_elim here elsewhere (cases_eq b (taken s m))
     where
-      here : b ≡ taken s m → Sound b (view b (search_on s).card.control)
+      here : b ≡ taken s m → Sound b (view b (search_on s).master.control)
       here e =
           sound_seen (sees_search_here b h s m see e) (few_search m.mode m.power m.step b m.row m.place few)
           (fine_here m.mode m.power m.row m.place b m.step h
-          (taken_off b m.row s.card.control.rows m.step off fine see.row_is e))
+          (taken_off b m.row s.master.control.rows m.step off fine see.row_is e))
           (any_start m.phase _ _ normal)
 
-      elsewhere : (b ≡ taken s m → ⊥) → Sound b (view b (search_on s).card.control)
+      elsewhere : (b ≡ taken s m → ⊥) → Sound b (view b (search_on s).master.control)
       elsewhere ne =
-          let there = row_at (taken s m) s.card.control.rows in
+          let there = row_at (taken s m) s.master.control.rows in
           let station = at s.line.places (taken s m) in
           sound_seen (sees_search_other b h s m see ne) few
-          (fine_next s.card.control.mode s.line.power there station b (taken s m) m.row.active m.step
-          (taken_lt b m.row.active s.card.control.rows m.step off fine)
+          (fine_next s.master.control.mode s.line.power there station b (taken s m) m.row.active m.step
+          (taken_lt b m.row.active s.master.control.rows m.step off fine)
           (λ e. absurd (ne (sym e))))
           (any_start m.phase _ _ normal)
 
-  pub search_zero : (m : Moment) → Sees 0 s m → (row_at 0 (search_on s).card.control.rows).active ≡ false
+  pub search_zero : (m : Moment) → Sees 0 s m → (row_at 0 (search_on s).master.control.rows).active ≡ false
   search_zero m see = ⊎_elim here elsewhere (cases_eq 0 (taken s m))
     where
       idle_row : m.row.active ≡ false
       idle_row = ap (λ (r : Row). r.active) (sym see.row_is) ∙ off
 
-      here : 0 ≡ taken s m → (row_at 0 (search_on s).card.control.rows).active ≡ false
+      here : 0 ≡ taken s m → (row_at 0 (search_on s).master.control.rows).active ≡ false
       here e =
           ap (λ (r : Row). r.active) (sees_search_here 0 (omega arith) s m see e).row_is
           ∙ zero_here m.mode m.power m.row m.place m.step idle_row
 
-      elsewhere : (0 ≡ taken s m → ⊥) → (row_at 0 (search_on s).card.control.rows).active ≡ false
+      elsewhere : (0 ≡ taken s m → ⊥) → (row_at 0 (search_on s).master.control.rows).active ≡ false
       elsewhere ne = ap (λ (r : Row). r.active) (sees_search_other 0 (omega arith) s m see ne).row_is ∙ idle_row
 
--- A card whose address b is sound, whose address 0 is inactive, and whose orders are orderly
+-- A master whose address b is sound, whose address 0 is inactive, and whose orders are orderly
 
-abbrev pub Kept : ℕ → Card → Type 0
+abbrev pub Kept : ℕ → Master → Type 0
 Kept b c = Sound b (view b c.control) × ((row_at 0 c.control.rows).active ≡ false) × Orderly c.orders
 
 -- Through a cycle
 
-orderly_manage : (s : Scene) → Orderly s.card.orders → Orderly (manage s).card.orders
+orderly_manage : (s : Scene) → Orderly s.master.orders → Orderly (manage s).master.orders
 unfolding manage everywhere
-orderly_manage s fit = go s.card.orders fit
+orderly_manage s fit = go s.master.orders fit
   where
-    go : (os : List Sent) → Orderly os → Orderly (manage_by os s).card.orders
+    go : (os : List Sent) → Orderly os → Orderly (manage_by os s).master.orders
     go [] all = fit
     go (o ∷ rest) all =
-        cond_both (ltb (length s.card.answers) s.card.answer_room) (carry_out o rest s) s (λ (t : Scene). Orderly t.card.orders)
+        cond_both (ltb (length s.master.answers) s.master.answer_room) (carry_out o rest s) s (λ (t : Scene). Orderly t.master.orders)
         (λ _. all.1) (λ _. fit)
 
-orders_searched : (s : Scene) → (search_on s).card.orders ≡ s.card.orders
+orders_searched : (s : Scene) → (search_on s).master.orders ≡ s.master.orders
 unfolding search_on everywhere
 orders_searched s = refl
 
-module _ (b : ℕ) (h : b < 32) (c : Card) (line : Meaning) (kept : Kept b c) where
+module _ (b : ℕ) (h : b < 32) (c : Master) (line : Meaning) (kept : Kept b c) where
   abbrev row : ℕ → Row
   row a = row_at a c.control.rows
 
@@ -198,7 +198,7 @@ module _ (b : ℕ) (h : b < 32) (c : Card) (line : Meaning) (kept : Kept b c) wh
   -- each address is visited, and the next phase entered
   kept_phase : (v : ℕ → Row → Place → Visit) (p : Phase) → (v b (row b) (place b)).row.misses < limit →
       Fine b (v b (row b) (place b)).row.active c.control.step → Starting p c.control.step (v b (row b) (place b)).row.active →
-      (v 0 (row 0) (place 0)).row.active ≡ false → Kept b (phased p (everywhere v (beginning c line))).card
+      (v 0 (row 0) (place 0)).row.active ≡ false → Kept b (phased p (everywhere v (beginning c line))).master
   kept_phase v p few fine starting off = (
     sound_seen (seen b h) few fine starting,
     ap (λ (r : Row). r.active) (seen 0 (omega arith)).row_is ∙ off,
@@ -210,7 +210,7 @@ module _ (b : ℕ) (h : b < 32) (c : Card) (line : Meaning) (kept : Kept b c) wh
           sees_phased a (everywhere v (beginning c line)) (visiting (v a (row a) (place a)) (first_moment a c line))
           (sees_everywhere a (beginning c line) (first_moment a c line) (sees_beginning a c line) v ha) p
 
-  kept_detection : c.control.phase ≡ Detection → Kept b (run Detection (beginning c line)).card
+  kept_detection : c.control.phase ≡ Detection → Kept b (run Detection (beginning c line)).master
   kept_detection e =
       let start = subst (λ (p : Phase). Starting p c.control.step (row b).active) e kept.0.starting in
       let mild = milder_detect line.power (row b) (place b) in
@@ -219,7 +219,7 @@ module _ (b : ℕ) (h : b < 32) (c : Card) (line : Meaning) (kept : Kept b c) wh
       (start.0, mild.0 start.1)
       ((milder_detect line.power (row 0) (place 0)).0 kept.1)
 
-  kept_activation : c.control.phase ≡ Activation → Kept b (run Activation (beginning c line)).card
+  kept_activation : c.control.phase ≡ Activation → Kept b (run Activation (beginning c line)).master
   kept_activation e =
       let visit : ℕ → Row → Place → Visit = activate_visit c.control.mode line.power in
       let start = subst (λ (p : Phase). Starting p c.control.step (row b).active) e kept.0.starting in
@@ -236,7 +236,7 @@ module _ (b : ℕ) (h : b < 32) (c : Card) (line : Meaning) (kept : Kept b c) wh
           elim (row 0).detected as (λ t. (cond (t && false) (enter_visit line.power (row 0) (place 0)) (left_alone (row 0) (place 0))).row.active ≡ false)
           [ true ↦ kept.1 | false ↦ kept.1 ]
 
-  kept_normal : c.control.phase ≡ Normal → Kept b (run Normal (beginning c line)).card
+  kept_normal : c.control.phase ≡ Normal → Kept b (run Normal (beginning c line)).master
   kept_normal e = (
     search_sound before zero_off b h (showing here.row here.place here.sent (first_moment b c line)) here.see e (here.mild.1 kept.0.few)
         (fine_milder b (row b).active here.row.active c.control.step here.mild.0 kept.0.fine),
@@ -254,10 +254,10 @@ module _ (b : ℕ) (h : b < 32) (c : Card) (line : Meaning) (kept : Kept b c) wh
       zeroth : Shows 0 before (first_moment 0 c line)
       zeroth = before_search 0 (omega arith) (beginning c line) (first_moment 0 c line) (sees_beginning 0 c line) kept.2
 
-      zero_off : (row_at 0 before.card.control.rows).active ≡ false
+      zero_off : (row_at 0 before.master.control.rows).active ≡ false
       zero_off = ap (λ (r : Row). r.active) zeroth.see.row_is ∙ zeroth.mild.0 kept.1
 
-  kept_offline : Kept b (stay_offline (beginning c line)).card
+  kept_offline : Kept b (stay_offline (beginning c line)).master
   unfolding stay_offline
   kept_offline = (
     subst (λ (r : Row). Sound b (view_of (cond (held_off c.control line) Offline Detection) (seek 0) r)) (sym (cleared b h))
@@ -266,23 +266,23 @@ module _ (b : ℕ) (h : b < 32) (c : Card) (line : Meaning) (kept : Kept b c) wh
     kept.2,
   )
     where
-      cleared : (a : ℕ) → a < 32 → row_at a (stay_offline (beginning c line)).card.control.rows ≡ dropped (row a)
+      cleared : (a : ℕ) → a < 32 → row_at a (stay_offline (beginning c line)).master.control.rows ≡ dropped (row a)
       cleared a ha = at_table (λ k. dropped (row k)) a new_row ha
 
       go : (t : Bool) → Sound b (view_of (cond t Offline Detection) (seek 0) (dropped (row b)))
       go true = record { few = omega arith; fine = omega arith; starting = tt }
       go false = record { few = omega arith; fine = omega arith; starting = (refl, refl) }
 
-  kept_run : (p : Phase) → c.control.phase ≡ p → Kept b (run p (beginning c line)).card
+  kept_run : (p : Phase) → c.control.phase ≡ p → Kept b (run p (beginning c line)).master
   kept_run Offline e = kept_offline
   kept_run Detection e = kept_detection e
   kept_run Activation e = kept_activation e
   kept_run Normal e = kept_normal e
 
-  pub kept_cycle : Kept b (cycle c line).card
+  pub kept_cycle : Kept b (cycle c line).master
   unfolding cycle
   kept_cycle =
-      elim (held_off c.control line) as (λ t. Kept b (run (cond t Offline c.control.phase) (beginning c line)).card)
+      elim (held_off c.control line) as (λ t. Kept b (run (cond t Offline c.control.phase) (beginning c line)).master)
       [ true ↦ kept_offline | false ↦ kept_run c.control.phase refl ]
 
 -- Through the other calls, and from new
@@ -305,7 +305,7 @@ orderly_placed (gives q) (gives u) os fit all = All-push (λ (s : Sent). Orderab
 orderly_placed (gives q) (refuses_for n c) os fit all = all
 orderly_placed (refuses_for n c) o os fit all = all
 
-orderly_call : (k : Call) (c : Card) → Orderly c.orders → Orderly (called k c).orders
+orderly_call : (k : Call) (c : Master) → Orderly c.orders → Orderly (called k c).orders
 orderly_call (placing w) c all = orderly_placed (order_from w) (placing_outcome (order_from w) c) c.orders (placeable w) all
 orderly_call collecting c all = all
 orderly_call (writing_outputs a n) c all = all
@@ -316,22 +316,22 @@ orderly_call (setting_offline on) c all = all
 orderly_call (editing e) c all = all
 orderly_call (projecting_all es) c all = all
 
-pub kept_call : (b : ℕ) → b < 32 → (k : Call) (c : Card) → Kept b c → Kept b (called k c)
+pub kept_call : (b : ℕ) → b < 32 → (k : Call) (c : Master) → Kept b c → Kept b (called k c)
 kept_call b h k c kept = (
   subst (Sound b) (sym (keeps_call b h k c)) kept.0,
   ap (λ (v : View). v.on) (keeps_call 0 (omega arith) k c) ∙ kept.1,
   orderly_call k c kept.2,
 )
 
-pub kept_turn : (b : ℕ) → b < 32 → (t : Turn) (c : Card) → Kept b c → Kept b (turned t c)
+pub kept_turn : (b : ℕ) → b < 32 → (t : Turn) (c : Master) → Kept b c → Kept b (turned t c)
 kept_turn b h (cycling line) c kept = kept_cycle b h c line kept
 kept_turn b h (calling k) c kept = kept_call b h k c kept
 
-pub kept_after : (b : ℕ) → b < 32 → (ts : List Turn) (c : Card) → Kept b c → Kept b (after ts c)
+pub kept_after : (b : ℕ) → b < 32 → (ts : List Turn) (c : Master) → Kept b c → Kept b (after ts c)
 kept_after b h [] c kept = kept
 kept_after b h (t ∷ ts) c kept = kept_after b h ts (turned t c) (kept_turn b h t c kept)
 
-pub kept_new : (b : ℕ) → b < 32 → (order_room answer_room : ℕ) → Kept b (new_card order_room answer_room)
+pub kept_new : (b : ℕ) → b < 32 → (order_room answer_room : ℕ) → Kept b (new_master order_room answer_room)
 unfolding new_control
 kept_new b h order_room answer_room = (
   subst (λ (r : Row). Sound b (view_of Offline (seek 0) r)) (sym (at_table (λ a. new_row) b new_row h))

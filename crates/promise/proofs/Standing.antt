@@ -1,4 +1,4 @@
--- What holds of a card all along a succession, and tells what a normal cycle sends: there are 32 rows, address 0 is not active, and the
+-- What holds of a master all along a succession, and tells what a normal cycle sends: there are 32 rows, address 0 is not active, and the
 -- orders that wait are a parameter's or a reset.
 use Rattle.std.proofs.Common.{◌≡◌, ℕ, Bool, true, false, cond, List, [], ◌∷◌, length, set, ◌∙◌, arith}
 use Rattle.std.proofs.lemmas.List.{length-set}
@@ -9,9 +9,9 @@ use Rattle.records.specs.Rows.{Row, row_at, outputs_outcome}
 use Rattle.records.specs.Edits.{Edit, projecting, unprojecting, taking_over, edit_outcome, edited, edit_after}
 use Rattle.records.specs.declared.record.Mode.{Mode}
 use Rattle.records.specs.declared.record.Mode.TheVariants.{Configuration}
-use Rattle.master.specs.declared.master.Phase.{Phase}
-use Rattle.master.specs.declared.master.Phase.TheVariants.{Offline, Detection, Activation, Normal}
-use Rattle.master.specs.Cycles.{Card, new_control, new_card, beginning, everywhere, search_on, stay_offline, run, running, cycle}
+use Rattle.control.specs.declared.control.Phase.{Phase}
+use Rattle.control.specs.declared.control.Phase.TheVariants.{Offline, Detection, Activation, Normal}
+use Rattle.control.specs.Cycles.{Master, new_control, new_master, beginning, everywhere, search_on, stay_offline, run, running, cycle}
 use Rattle.promise.specs.Successions.{Call, placing, collecting, writing_outputs, reading_inputs, reading_lists, setting_mode, setting_offline, editing, projecting_all, Turn, cycling, calling, all_edited, called, turned, after}
 use Rattle.promise.proofs.Moments.{Orderly}
 use Rattle.promise.proofs.Soundness.{kept_after, kept_new}
@@ -20,11 +20,11 @@ abbrev pub Sized : List Row → Type 0
 Sized rs = length rs ≡ 32
 
 -- a cycle makes a new table of the rows
-sized_cycle : (c : Card) (line : Meaning) → Sized (cycle c line).card.control.rows
+sized_cycle : (c : Master) (line : Meaning) → Sized (cycle c line).master.control.rows
 unfolding cycle everywhere search_on stay_offline
 sized_cycle c line = by (running c.control line)
   where
-    by : (p : Phase) → Sized (run p (beginning c line)).card.control.rows
+    by : (p : Phase) → Sized (run p (beginning c line)).master.control.rows
     by Offline = length-table _
     by Detection = length-table _
     by Activation = length-table _
@@ -51,7 +51,7 @@ sized_edits : (es : List Edit) (rs : List Row) → Sized rs → Sized (all_edite
 sized_edits [] rs z = z
 sized_edits (e ∷ es) rs z = sized_edits es (edit_after Configuration e rs) (sized_edit Configuration e rs z)
 
-sized_call : (k : Call) (c : Card) → Sized c.control.rows → Sized (called k c).control.rows
+sized_call : (k : Call) (c : Master) → Sized c.control.rows → Sized (called k c).control.rows
 sized_call (placing w) c z = z
 sized_call collecting c z = z
 sized_call (writing_outputs a n) c z = sized_cond (accepts (outputs_outcome a n)) _ c.control.rows (sized_set c.control.rows a _ z) z
@@ -62,19 +62,19 @@ sized_call (setting_offline on) c z = z
 sized_call (editing e) c z = sized_edit c.control.mode e c.control.rows z
 sized_call (projecting_all es) c z = sized_edits es c.control.rows z
 
-sized_after : (p : List Turn) (c : Card) → Sized c.control.rows → Sized (after p c).control.rows
+sized_after : (p : List Turn) (c : Master) → Sized c.control.rows → Sized (after p c).control.rows
 sized_after [] c z = z
 sized_after (cycling line ∷ p) c z = sized_after p (turned (cycling line) c) (sized_cycle c line)
 sized_after (calling k ∷ p) c z = sized_after p (turned (calling k) c) (sized_call k c z)
 
-pub record Standing (c : Card) : Type 0 where
+pub record Standing (c : Master) : Type 0 where
   pub sized : Sized c.control.rows
   pub zero_idle : (row_at 0 c.control.rows).active ≡ false
   pub orderly : Orderly c.orders
 
-pub stands : (order_room answer_room : ℕ) (p : List Turn) → Standing (after p (new_card order_room answer_room))
+pub stands : (order_room answer_room : ℕ) (p : List Turn) → Standing (after p (new_master order_room answer_room))
 unfolding new_control
 stands order_room answer_room p =
-    let new : Card = new_card order_room answer_room in
+    let new : Master = new_master order_room answer_room in
     let kept = kept_after 0 (omega arith) p new (kept_new 0 (omega arith) order_room answer_room) in
     record { sized = sized_after p new (length-table _); zero_idle = kept.1; orderly = kept.2 }

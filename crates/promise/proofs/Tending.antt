@@ -11,8 +11,8 @@ use Rattle.phases.specs.Activation.{with_pi}
 use Rattle.orders.specs.Management.{manage_visit}
 use Rattle.search.specs.Steps.{Stage}
 use Rattle.search.specs.Searches.{search_visit, taken_by}
-use Rattle.master.specs.declared.master.Phase.TheVariants.{Normal}
-use Rattle.master.specs.Cycles.{Scene, everywhere, visit_made, only, manage, search_on}
+use Rattle.control.specs.declared.control.Phase.TheVariants.{Normal}
+use Rattle.control.specs.Cycles.{Scene, everywhere, visit_made, only, manage, search_on}
 use Rattle.promise.specs.Waiting.{sent_to, exchanges, resets, codes_of}
 use Rattle.promise.proofs.Sending.{sent-to-append, resets_append, exchanges-append}
 use Rattle.promise.proofs.Sees.{Moment, Sees, visiting}
@@ -34,9 +34,9 @@ no_reset_everywhere b v s none =
 pub no_reset_search : (b : ℕ) (s : Scene) → NoReset b (search_on s) → NoReset b s
 unfolding search_on
 no_reset_search b s none =
-    let t = s.card.control.step in
-    let c = taken_by s.card.control.rows t in
-    no_reset_everywhere b (only c (search_visit s.card.control.mode s.line.power t c)) s none
+    let t = s.master.control.step in
+    let c = taken_by s.master.control.rows t in
+    no_reset_everywhere b (only c (search_visit s.master.control.mode s.line.power t c)) s none
 
 -- a normal cycle with power and no offline request, which has sent qs to the module x at this address so far
 abbrev pub ready : Mode → Stage → Row → State → List Asking → Moment
@@ -105,7 +105,7 @@ with_parameter_tended n r x =
 
 module _
     (b : ℕ) (hb : b < 32) (s : Scene) (mode : Mode) (step : Stage) (r : Row) (x : State) (qs : List Asking)
-    (see : Sees b s (ready mode step r x qs)) (calm : x.disturbance ≡ 0) (fit : Orderly s.card.orders) (none : NoReset b (manage s))
+    (see : Sees b s (ready mode step r x qs)) (calm : x.disturbance ≡ 0) (fit : Orderly s.master.orders) (none : NoReset b (manage s))
   where
     abbrev Visited : Visit → Type 0
     Visited w = Sees b (manage s) (visiting w (ready mode step r x qs))

@@ -15,7 +15,7 @@ use Rattle.phases.specs.Activation.{admissible, with_pi, joining, entered, enter
 use Rattle.orders.specs.Management.{managed, manage_visit}
 use Rattle.search.specs.Steps.{Stage, seek, name, enter}
 use Rattle.search.specs.Searches.{sought, called, search_visit}
-use Rattle.master.specs.Cycles.{only}
+use Rattle.control.specs.Cycles.{only}
 use Rattle.promise.specs.Waiting.{ProjectedSo, codes_of}
 
 -- How an undisturbed module with power takes each visit

@@ -4,9 +4,9 @@ use Rattle.std.proofs.Common.{◌≡◌, ℕ, ◌+◌, ◌<◌, ◌≤◌, Bool,
 use Rattle.std.proofs.lemmas.Bool.{cases_eq, cases_Bool, true≢false}
 use Rattle.records.specs.Rows.{Pair, Row, row_at}
 use Rattle.search.specs.Steps.{Stage, seek, name, enter}
-use Rattle.master.specs.declared.master.Phase.{Phase}
-use Rattle.master.specs.declared.master.Phase.TheVariants.{Offline, Detection, Activation, Normal}
-use Rattle.master.specs.Cycles.{Control, Scene}
+use Rattle.control.specs.declared.control.Phase.{Phase}
+use Rattle.control.specs.declared.control.Phase.TheVariants.{Offline, Detection, Activation, Normal}
+use Rattle.control.specs.Cycles.{Control, Scene}
 use Rattle.promise.proofs.Sees.{Moment, Sees}
 use Rattle.promise.proofs.Far.{Far, round, far_any, far_three_left}
 
@@ -25,7 +25,7 @@ view_of phase step r = record { phase = phase; step = step; listed = r.detected;
 abbrev pub view : ℕ → Control → View
 view b m = view_of m.phase m.step (row_at b m.rows)
 
-pub sees_view : {b : ℕ} {s : Scene} {m : Moment} → Sees b s m → view b s.card.control ≡ view_of m.phase m.step m.row
+pub sees_view : {b : ℕ} {s : Scene} {m : Moment} → Sees b s m → view b s.master.control ≡ view_of m.phase m.step m.row
 sees_view {b} {s} {m} see = let phase = see.phase_is in let step = see.step_is in let row = see.row_is in cc
 
 -- as many misses in succession drop a module

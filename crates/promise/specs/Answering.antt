@@ -7,9 +7,9 @@ use Rattle.std.specs.List.{AllByRecursion}
 use Rattle.values.specs.Refusals.{Outcome, gives, refuses_for, accepts}
 use Rattle.telegrams.specs.Requests.{Sent}
 use Rattle.orders.specs.Orders.{Told}
-use Rattle.master.specs.Placing.{is_normal}
+use Rattle.control.specs.Placing.{is_normal}
 use Rattle.lines.specs.Lines.{Meaning}
-use Rattle.master.specs.Cycles.{Card, beginning, exchange, ending_at, running, cycle}
+use Rattle.control.specs.Cycles.{Master, beginning, exchange, ending_at, running, cycle}
 use Rattle.promise.specs.Successions.{Placement, order_from, Call, placing, collecting, writing_outputs, reading_inputs, reading_lists, setting_mode, setting_offline, editing, projecting_all, Turn, cycling, calling, placing_outcome, called, after, Met}
 use Rattle.promise.specs.Waiting.{done}
 
@@ -20,7 +20,7 @@ order_in (gives q) (gives u) = q ∷ []
 order_in (gives q) (refuses_for n c) = []
 order_in (refuses_for n c) o = []
 
-abbrev pub accepted_by_call : Call → Card → List Sent
+abbrev pub accepted_by_call : Call → Master → List Sent
 accepted_by_call (placing w) c = order_in (order_from w) (placing_outcome (order_from w) c)
 accepted_by_call collecting c = []
 accepted_by_call (writing_outputs a n) c = []
@@ -31,25 +31,25 @@ accepted_by_call (setting_offline on) c = []
 accepted_by_call (editing e) c = []
 accepted_by_call (projecting_all es) c = []
 
-abbrev pub accepted_by : Card → List Turn → List Sent
+abbrev pub accepted_by : Master → List Turn → List Sent
 accepted_by c [] = []
-accepted_by c (cycling line ∷ ts) = accepted_by (cycle c line).card ts
+accepted_by c (cycling line ∷ ts) = accepted_by (cycle c line).master ts
 accepted_by c (calling k ∷ ts) = accepted_by_call k c ++ accepted_by (called k c) ts
 
 -- the answers that a cycle puts behind the uncollected ones
-abbrev pub put_by : Card → Meaning → List Told
-put_by c line = drop (length c.answers) (cycle c line).card.answers
+abbrev pub put_by : Master → Meaning → List Told
+put_by c line = drop (length c.answers) (cycle c line).master.answers
 
-abbrev pub answered_by : Card → List Turn → List Told
+abbrev pub answered_by : Master → List Turn → List Told
 answered_by c [] = []
-answered_by c (cycling line ∷ ts) = put_by c line ++ answered_by (cycle c line).card ts
+answered_by c (cycling line ∷ ts) = put_by c line ++ answered_by (cycle c line).master ts
 answered_by c (calling k ∷ ts) = answered_by (called k c) ts
 
 abbrev pub first_of : List Told → List Told
 first_of [] = []
 first_of (x ∷ xs) = x ∷ []
 
-abbrev pub collected_by_call : Call → Card → List Told
+abbrev pub collected_by_call : Call → Master → List Told
 collected_by_call (placing w) c = []
 collected_by_call collecting c = first_of c.answers
 collected_by_call (writing_outputs a n) c = []
@@ -60,13 +60,13 @@ collected_by_call (setting_offline on) c = []
 collected_by_call (editing e) c = []
 collected_by_call (projecting_all es) c = []
 
-abbrev pub collected_by : Card → List Turn → List Told
+abbrev pub collected_by : Master → List Turn → List Told
 collected_by c [] = []
-collected_by c (cycling line ∷ ts) = collected_by (cycle c line).card ts
+collected_by c (cycling line ∷ ts) = collected_by (cycle c line).master ts
 collected_by c (calling k ∷ ts) = collected_by_call k c ++ collected_by (called k c) ts
 
 -- The n-th answer put is that of the n-th order accepted, and the n-th answer collected is the n-th answer put
-pub record FirstCome (c : Card) (p : List Turn) : Type 0 where
+pub record FirstCome (c : Master) (p : List Turn) : Type 0 where
   pub answered_in_order : accepted_by c p ≡ map (λ x. x.order) (answered_by c p) ++ (after p c).orders
   pub collected_in_order : answered_by c p ≡ collected_by c p ++ (after p c).answers
 
@@ -78,26 +78,26 @@ pub record Numbered : Type 0 where
   pub answers_before : ℕ
 
 abbrev pub is_normal_cycle : Met → Bool
-is_normal_cycle d = is_normal (running d.card.control d.line)
+is_normal_cycle d = is_normal (running d.master.control d.line)
 
-abbrev pub numbered_cycles : ℕ → ℕ → Card → List Turn → List Numbered
+abbrev pub numbered_cycles : ℕ → ℕ → Master → List Turn → List Numbered
 numbered_cycles i n c [] = []
 numbered_cycles i n c (cycling line ∷ ts) =
-    record { met = record { card = c; line = line }; normal_before = i; answers_before = n }
-    ∷ numbered_cycles (i + cond (is_normal (running c.control line)) 1 0) (n + length (put_by c line)) (cycle c line).card ts
+    record { met = record { master = c; line = line }; normal_before = i; answers_before = n }
+    ∷ numbered_cycles (i + cond (is_normal (running c.control line)) 1 0) (n + length (put_by c line)) (cycle c line).master ts
 numbered_cycles i n c (calling k ∷ ts) = numbered_cycles i n (called k c) ts
 
 -- the cycle puts answer number n, which is that of order number n
 pub record PutsNumber (n : ℕ) (d : Numbered) : Type 0 where
   pub not_before : d.answers_before ≤ n
-  pub not_after : n < d.answers_before + length (put_by d.met.card d.met.line)
+  pub not_after : n < d.answers_before + length (put_by d.met.master d.met.line)
 
 -- the cycle takes order o, the oldest that waits, and puts its answer with the ending that management gives it
 pub record AnswersIt (o : Sent) (d : Met) : Type 0 where
   pub rest : List Sent
-  pub waited : d.card.orders ≡ o ∷ rest
-  pub waits : (done d).card.orders ≡ rest
-  pub put : (done d).card.answers ≡ d.card.answers ++ record { order = o; how = ending_at (exchange (beginning d.card d.line)) o } ∷ []
+  pub waited : d.master.orders ≡ o ∷ rest
+  pub waits : (done d).master.orders ≡ rest
+  pub put : (done d).master.answers ≡ d.master.answers ++ record { order = o; how = ending_at (exchange (beginning d.master d.line)) o } ∷ []
 
 -- Order o, with number n, was accepted behind k others: the normal cycle with k normal ones before it answers it, and no other cycle does
 pub record InTurn (k n : ℕ) (o : Sent) (d : Numbered) : Type 0 where
@@ -105,7 +105,7 @@ pub record InTurn (k n : ℕ) (o : Sent) (d : Numbered) : Type 0 where
   pub in_no_other : PutsNumber n d → (is_normal_cycle d.met ≡ true) × (d.normal_before ≡ k)
 
 -- what is said of an order that is placed after p with numbers w, and accepted, in every cycle of the q that follows
-abbrev pub AnsweredInTurn : Card → List Turn → Placement → List Turn → Type 0
+abbrev pub AnsweredInTurn : Master → List Turn → Placement → List Turn → Type 0
 AnsweredInTurn new p w q =
     (o : Sent) → order_from w ≡ gives o → accepts (placing_outcome (order_from w) (after p new)) ≡ true →
     AllByRecursion (InTurn (length (after p new).orders) (length (accepted_by new p)) o)

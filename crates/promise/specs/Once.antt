@@ -4,9 +4,9 @@
 use Rattle.std.specs.Prelude.{◌≡◌, ℕ, ◌≤◌, cond, [], ◌∷◌, length}
 use Rattle.records.specs.Rows.{row_at}
 use Rattle.lines.specs.Lines.{Meaning}
-use Rattle.master.specs.Cycles.{Card, cycle}
+use Rattle.control.specs.Cycles.{Master, cycle}
 use Rattle.promise.specs.Waiting.{sent_to, exchanges}
 
-pub record OnceEach (c : Card) (line : Meaning) : Type 0 where
+pub record OnceEach (c : Master) (line : Meaning) : Type 0 where
   pub exactly : (b : ℕ) → exchanges (sent_to b (cycle c line).sent) ≡ cond (row_at b c.control.rows).active ((row_at b c.control.rows).odi ∷ []) []
   pub at_most : length (cycle c line).sent ≤ 33

@@ -3,14 +3,14 @@
 -- statements speak of `after p new`, never of what a program holds.
 use Rattle.std.specs.Prelude.{◌≡◌, List, ◌∷◌, ◌++◌}
 use Rattle.lines.specs.Lines.{Meaning}
-use Rattle.master.specs.Cycles.{Card, running}
-use Rattle.master.specs.declared.master.Phase.TheVariants.{Normal}
+use Rattle.control.specs.Cycles.{Master, running}
+use Rattle.control.specs.declared.control.Phase.TheVariants.{Normal}
 use Rattle.promise.specs.Successions.{Placement, placing, Turn, cycling, calling, after}
 use Rattle.promise.specs.Waiting.{WaitingBound}
 use Rattle.promise.specs.Once.{OnceEach}
 use Rattle.promise.specs.Answering.{FirstCome, AnsweredInTurn}
 
-pub record Promise (new : Card) (ts : List Turn) : Type 0 where
+pub record Promise (new : Master) (ts : List Turn) : Type 0 where
   -- with a module that is plugged in after p and stays through q, data is exchanged in cycle 98 from there and in every later one, whatever comes in r
   pub waiting_bound : (p q r : List Turn) → ts ≡ p ++ q ++ r → WaitingBound (after p new) q
   -- each accepted order is answered in its turn, in time and in no other cycle; answers are collected in the order of acceptance

@@ -6,7 +6,7 @@ use Rattle.std.specs.List.{AllByRecursion, list_all}
 use Rattle.stations.specs.Stations.{State, Place, vacant, occupied}
 use Rattle.lines.specs.Lines.{Meaning}
 use Rattle.records.specs.Modes.{in_configuration}
-use Rattle.master.specs.Cycles.{Card, new_card}
+use Rattle.control.specs.Cycles.{Master, new_master}
 use Rattle.promise.specs.Successions.{Turn, cycling, calling, after, Met, cycles}
 use Rattle.promise.specs.Waiting.{done, sent_to, exchanges, StaysPlugged, Exchanged, WaitsAtMost}
 
@@ -43,11 +43,11 @@ abbrev pub PassesBy : ℕ → Met → Type 0
 PassesBy b d = exchanges (sent_to b (done d).sent) ≡ []
 
 abbrev pub is_protected : Met → Bool
-is_protected d = not (in_configuration d.card.control.mode)
+is_protected d = not (in_configuration d.master.control.mode)
 
 -- p came before plugging at b, and n + 1 cycles came after it, the second in protected mode: data is exchanged with the module in the last of
 -- them, and in none before
-pub record WaitsLongest (n b : ℕ) (new : Card) (p q : List Turn) : Type 0 where
+pub record WaitsLongest (n b : ℕ) (new : Master) (p q : List Turn) : Type 0 where
   pub lawful_before : list_all lawful (lines_met p) ≡ true
   pub lawful_plugged : list_all lawful (take 1 (lines_met q)) ≡ true
   pub untouched : Untouched (cycles (after p new) q)
@@ -59,5 +59,5 @@ pub record WaitsLongest (n b : ℕ) (new : Card) (p q : List Turn) : Type 0 wher
 
 -- n cycles are enough in every succession, and at every address 1 to 31, whatever the queues hold at most, there is one in which it takes as many
 pub record LeastBound (n : ℕ) : Type 0 where
-  pub enough : (order_room answer_room : ℕ) (p q : List Turn) → WaitsAtMost n (after p (new_card order_room answer_room)) q
-  pub sharp : (order_room answer_room b : ℕ) → 1 ≤ b → b < 32 → (p : List Turn) × (q : List Turn) × WaitsLongest n b (new_card order_room answer_room) p q
+  pub enough : (order_room answer_room : ℕ) (p q : List Turn) → WaitsAtMost n (after p (new_master order_room answer_room)) q
+  pub sharp : (order_room answer_room b : ℕ) → 1 ≤ b → b < 32 → (p : List Turn) × (q : List Turn) × WaitsLongest n b (new_master order_room answer_room) p q

@@ -12,9 +12,9 @@ use Rattle.records.specs.declared.record.Mode.{Mode}
 use Rattle.records.specs.declared.record.Mode.TheVariants.{Configuration}
 use Rattle.orders.specs.Orders.{reset_ordered, Told}
 use Rattle.orders.specs.Queues.{orders_after}
-use Rattle.master.specs.Placing.{place_outcome}
+use Rattle.control.specs.Placing.{place_outcome}
 use Rattle.lines.specs.Lines.{Meaning}
-use Rattle.master.specs.Cycles.{Control, Card, with_rows, with_mode, with_control, cycle}
+use Rattle.control.specs.Cycles.{Control, Master, with_rows, with_mode, with_control, cycle}
 
 -- an order as the controller asks for it, with any numbers
 pub data Placement : Type 0 where
@@ -41,9 +41,9 @@ pub data Turn : Type 0 where
   cycling : Meaning → Turn
   calling : Call → Turn
 
--- What a call makes of the card
+-- What a call makes of the master
 
-abbrev pub placing_outcome : Outcome Sent → Card → Outcome (Unit {0})
+abbrev pub placing_outcome : Outcome Sent → Master → Outcome (Unit {0})
 placing_outcome q c =
     place_outcome c.control.phase c.control.rows (length c.orders) c.order_room (length c.answers) c.answer_room q
 
@@ -51,7 +51,7 @@ abbrev pub waiting_after : Outcome Sent → Outcome (Unit {0}) → List Sent →
 waiting_after (gives q) o waiting = orders_after o q waiting
 waiting_after (refuses_for n c) o waiting = waiting
 
-abbrev pub with_queues : List Sent → List Told → Card → Card
+abbrev pub with_queues : List Sent → List Told → Master → Master
 with_queues os xs c = record c { orders = os; answers = xs }
 
 abbrev pub with_offline : Bool → Control → Control
@@ -62,7 +62,7 @@ abbrev pub all_edited : Mode → List Edit → List Row → List Row
 all_edited mode [] rs = rs
 all_edited mode (e ∷ es) rs = all_edited mode es (edit_after mode e rs)
 
-abbrev pub called : Call → Card → Card
+abbrev pub called : Call → Master → Master
 called (placing w) c = with_queues (waiting_after (order_from w) (placing_outcome (order_from w) c) c.orders) c.answers c
 called collecting c = with_queues c.orders (take_after c.answers) c
 called (writing_outputs a n) c = with_control (with_rows (outputs_after a n c.control.rows) c.control) c
@@ -73,22 +73,22 @@ called (setting_offline on) c = with_control (with_offline on c.control) c
 called (editing e) c = with_control (with_rows (edit_after c.control.mode e c.control.rows) c.control) c
 called (projecting_all es) c = with_control (with_rows (all_edited Configuration es c.control.rows) c.control) c
 
-abbrev pub turned : Turn → Card → Card
-turned (cycling line) c = (cycle c line).card
+abbrev pub turned : Turn → Master → Master
+turned (cycling line) c = (cycle c line).master
 turned (calling k) c = called k c
 
--- the card after a succession
-abbrev pub after : List Turn → Card → Card
+-- the master after a succession
+abbrev pub after : List Turn → Master → Master
 after [] c = c
 after (t ∷ ts) c = after ts (turned t c)
 
--- The cycles of a succession, each with the card and the line as it began
+-- The cycles of a succession, each with the master and the line as it began
 
 pub record Met : Type 0 where
-  pub card : Card
+  pub master : Master
   pub line : Meaning
 
-abbrev pub cycles : Card → List Turn → List Met
+abbrev pub cycles : Master → List Turn → List Met
 cycles c [] = []
-cycles c (cycling line ∷ ts) = record { card = c; line = line } ∷ cycles (cycle c line).card ts
+cycles c (cycling line ∷ ts) = record { master = c; line = line } ∷ cycles (cycle c line).master ts
 cycles c (calling k ∷ ts) = cycles (called k c) ts

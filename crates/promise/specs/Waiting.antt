@@ -1,5 +1,5 @@
 -- The waiting bound: with a module that is plugged in and stays, data is exchanged in cycle 98 and in every later one.
--- Plugging lies anywhere in a succession: what came before has led to card c, q comes after it, and cycle 1 is the first of q. Every
+-- Plugging lies anywhere in a succession: what came before has led to master c, q comes after it, and cycle 1 is the first of q. Every
 -- hypothesis speaks of the cycles of q alone, each as it began.
 -- docs/PROMISE.md sets the fields of `Admitted`, `StaysPlugged` and `Exchanged` beside the words, one by one.
 use Rattle.std.specs.Prelude.{◌≡◌, ℕ, ◌+◌, ◌<◌, ◌≤◌, true, false, cond, List, [], ◌∷◌, drop, ◌==◌}
@@ -10,16 +10,16 @@ use Rattle.lines.specs.Lines.{at}
 use Rattle.records.specs.Rows.{Pair, Row, row_at}
 use Rattle.records.specs.declared.record.Mode.{Mode}
 use Rattle.records.specs.declared.record.Mode.TheVariants.{Configuration, Protected}
-use Rattle.master.specs.declared.master.Phase.TheVariants.{Normal}
-use Rattle.master.specs.Cycles.{Card, Scene, running, cycle}
+use Rattle.control.specs.declared.control.Phase.TheVariants.{Normal}
+use Rattle.control.specs.Cycles.{Master, Scene, running, cycle}
 use Rattle.promise.specs.Successions.{Turn, Met, cycles}
 
 -- what a cycle comes to
 abbrev pub done : Met → Scene
-done d = cycle d.card d.line
+done d = cycle d.master d.line
 
 abbrev pub row_met : ℕ → Met → Row
-row_met b d = row_at b d.card.control.rows
+row_met b d = row_at b d.master.control.rows
 
 -- what a list of requests has for address b, in order
 unfoldable pub sent_to : ℕ → List Sent → List Asking
@@ -59,11 +59,11 @@ ProjectedSo Protected r x = (r.projected ≡ true) × (r.pcd ≡ codes_of x)
 -- the cycle finds module x at b, undisturbed and admitted, with power and no offline request, and sends it no reset
 pub record Admitted (b : ℕ) (d : Met) (x : State) : Type 0 where
   pub powered : d.line.power ≡ true
-  pub not_offline : d.card.control.offline ≡ false
+  pub not_offline : d.master.control.offline ≡ false
   pub there : at d.line.places b ≡ occupied x
   pub undisturbed : x.disturbance ≡ 0
   pub exchangeable : x.io < 15
-  pub as_projected : ProjectedSo d.card.control.mode (row_met b d) x
+  pub as_projected : ProjectedSo d.master.control.mode (row_met b d) x
   pub never_reset : resets (sent_to b (done d).sent) ≡ 0
 
 abbrev pub Stays : ℕ → Met → Type 0
@@ -81,23 +81,23 @@ LeftInPlace b (d ∷ ds) = Unaltered b d ds × LeftInPlace b ds
 -- the cycle ran in the normal phase and sent the module one Data_Exchange, with its ODI; the module took it, and the nibble that it replied
 -- stands in IDI
 pub record Exchanged (b : ℕ) (d : Met) : Type 0 where
-  pub normal : running d.card.control d.line ≡ Normal
+  pub normal : running d.master.control d.line ≡ Normal
   pub once : exchanges (sent_to b (done d).sent) ≡ (row_met b d).odi ∷ []
   pub before : State
   pub afterwards : State
   pub was : at d.line.places b ≡ occupied before
   pub is : at (done d).line.places b ≡ occupied afterwards
   pub took : afterwards.outputs ≡ (row_met b d).odi
-  pub replied : reply d.line.power (at d.line.places b) (data_exchange (row_met b d).odi) ≡ nibble (row_at b (done d).card.control.rows).idi
+  pub replied : reply d.line.power (at d.line.places b) (data_exchange (row_met b d).odi) ≡ nibble (row_at b (done d).master.control.rows).idi
 
 -- what is asked of the cycles after plugging
 pub record StaysPlugged (b : ℕ) (ds : List Met) : Type 0 where
   pub admitted : AllByRecursion (Stays b) ds
   pub left : LeftInPlace b ds
 
--- From card c on, as plugging finds it, through q: after n cycles data is exchanged with the module in every one
-abbrev pub WaitsAtMost : ℕ → Card → List Turn → Type 0
+-- From master c on, as plugging finds it, through q: after n cycles data is exchanged with the module in every one
+abbrev pub WaitsAtMost : ℕ → Master → List Turn → Type 0
 WaitsAtMost n c q = (b : ℕ) → 1 ≤ b → b < 32 → StaysPlugged b (cycles c q) → AllByRecursion (Exchanged b) (drop n (cycles c q))
 
-abbrev pub WaitingBound : Card → List Turn → Type 0
+abbrev pub WaitingBound : Master → List Turn → Type 0
 WaitingBound c q = WaitsAtMost 97 c q

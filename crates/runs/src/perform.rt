@@ -1,24 +1,24 @@
 ghost use Rattle.queues.specs.Fifo.{UnchangedIfRefused};
 ghost use Rattle.lines.specs.Lines.{meaning};
 ghost use Rattle.lines.specs.Sending.{Sends};
-ghost use Rattle.master.specs.Cycles.{card_of};
+ghost use Rattle.control.specs.Cycles.{master_of};
 ghost use Rattle.runs.specs.Outcomes.{turn_of, came, sent_by, QueuesLeft, Performed};
 
 use super::call::{Call, Given, Outcome};
 use super::edits::edit_all;
 use lines::line::Line;
-use master::master::Master;
+use control::control::ExecutionControl;
 use orders::pair::Queues;
 
 /// Makes one call.
 pub fn perform<L: Line>(
     call: Call<'_>,
     line: &mut L,
-    master: &mut Master,
+    master: &mut ExecutionControl,
     queues: &mut Queues,
 ) -> Outcome
-    ensures performed { Performed call.entry (meaning (L.power line.old) (L.stations line.old)) (card_of master.old queues.old) (came result) (meaning (L.power line.new) (L.stations line.new)) (card_of master.new queues.new) }
-    ensures sends { Sends L.carried line.old (sent_by (turn_of (meaning (L.power line.old) (L.stations line.old)) call.entry) (card_of master.old queues.old)) line.new }
+    ensures performed { Performed call.entry (meaning (L.power line.old) (L.stations line.old)) (master_of master.old queues.old) (came result) (meaning (L.power line.new) (L.stations line.new)) (master_of master.new queues.new) }
+    ensures sends { Sends L.carried line.old (sent_by (turn_of (meaning (L.power line.old) (L.stations line.old)) call.entry) (master_of master.old queues.old)) line.new }
     ensures refused { UnchangedIfRefused result queues.old queues.new }
     ensures queues { QueuesLeft call.entry queues.old queues.new }
 {

@@ -9,7 +9,7 @@ ghost use Rattle.promise.specs.Longest.{fresh, all_vacant, former_alone, all_new
 ghost use Rattle.worst_case.specs.Plugging.{rack_line, Plugs};
 
 use lines::line::Line;
-use master::cycle::Report;
+use control::cycle::Report;
 use promise::figure::waiting_bound;
 use racks::bench::BenchRack;
 use records::edit::Edit;

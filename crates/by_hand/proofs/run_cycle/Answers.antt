@@ -1,4 +1,4 @@
-use Rattle.master.proofs.Turning.{asks_next}
+use Rattle.control.proofs.Turning.{asks_next}
 use Rattle.by_hand.proofs.run_cycle.Goals as goal
 
 pub loop-request-smaller : goal.loop-request-smaller

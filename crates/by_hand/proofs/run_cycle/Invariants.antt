@@ -1,4 +1,4 @@
-use Rattle.master.specs.Turns.{left_at}
+use Rattle.control.specs.Turns.{left_at}
 use Rattle.by_hand.proofs.run_cycle.Given as goal
 
 abbrev pub decreases-loop-request : goal.decreases-loop-request

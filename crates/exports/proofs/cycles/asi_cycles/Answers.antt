@@ -3,7 +3,7 @@ use Rattle.std.proofs.lemmas.Bool.{cond-true}
 use Rattle.stations.specs.Images.{good_image, powered_in, place_at}
 use Rattle.lines.specs.Lines.{Meaning, meaning}
 use Rattle.racks.specs.Racks.{station_at}
-use Rattle.master.specs.Cycles.{new_card}
+use Rattle.control.specs.Cycles.{new_master}
 use Rattle.exports.specs.Counting.{requests_in}
 use Rattle.exports.proofs.Counting.{count_starts, counts_on, new_empty, same_meaning}
 use Rattle.exports.proofs.cycles.asi_cycles.Goals as goal
@@ -24,5 +24,5 @@ returns c =
     let all : c.loop-done._done ≡ c.args.cycles = omega (arith, c.loop-done-test.false, c.loop-done.auto._done-end) in
     let l : Meaning = meaning (powered_in c.args.words.now) (place_at c.args.words.now) in
     c.loop-done.invariant.count
-    ∙ ap (λ (n : ℕ). requests_in n (new_card 0 0) l % 4294967296) all
-    ∙ sym (cond-true (good_image c.args.words.now) (requests_in c.args.cycles (new_card 0 0) l % 4294967296) 0x8313 c.in-Ok.ensures.0)
+    ∙ ap (λ (n : ℕ). requests_in n (new_master 0 0) l % 4294967296) all
+    ∙ sym (cond-true (good_image c.args.words.now) (requests_in c.args.cycles (new_master 0 0) l % 4294967296) 0x8313 c.in-Ok.ensures.0)

@@ -2,7 +2,7 @@ use Rattle.std.proofs.Common.{◌≡◌, ℕ, List, map, take, sym, ap, ◌∙�
 use Rattle.std.proofs.lemmas.List.{take_all}
 use Rattle.lines.specs.Lines.{Meaning, meaning}
 use Rattle.lines.specs.Sending.{Sends}
-use Rattle.master.specs.Cycles.{new_card}
+use Rattle.control.specs.Cycles.{new_master}
 use Rattle.runs.specs.Outcomes.{came}
 use Rattle.runs.specs.Runs.{undisturbed, sent_undisturbed, line_undisturbed}
 use Rattle.runs.specs.Outcomes.{Logged}
@@ -19,7 +19,7 @@ returns g c =
     let idle = idle_run _ _ c.run.ensures.ran.ran in
     let all : take n log ≡ log = take_all n log (omega (arith, c.run.auto.log)) in
     record {
-      came_to = ap (map came) (sym all) ∙ idle.came_to ∙ ap (λ (m : ℕ). undisturbed (take m script) w (new_card 0 0)) made;
-      sends = subst (λ (m : ℕ). Sends g.L.Line.carried c.args.line.now (sent_undisturbed (take m script) w (new_card 0 0)) c.run.new.line) made idle.sends;
-      left = idle.left ∙ ap (λ (m : ℕ). line_undisturbed (take m script) w (new_card 0 0)) made;
+      came_to = ap (map came) (sym all) ∙ idle.came_to ∙ ap (λ (m : ℕ). undisturbed (take m script) w (new_master 0 0)) made;
+      sends = subst (λ (m : ℕ). Sends g.L.Line.carried c.args.line.now (sent_undisturbed (take m script) w (new_master 0 0)) c.run.new.line) made idle.sends;
+      left = idle.left ∙ ap (λ (m : ℕ). line_undisturbed (take m script) w (new_master 0 0)) made;
     }

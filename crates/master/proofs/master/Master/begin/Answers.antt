@@ -1,5 +1,0 @@
-use Rattle.master.proofs.AnyReplies.{cycle_asks}
-use Rattle.master.proofs.master.Master.begin.Goals as goal
-
-pub returns-clause-any_wire : goal.returns-clause-any_wire
-returns-clause-any_wire c = cycle_asks c.args.self.now c.args.queues.now c.args.powered c.first_turn-turn.ensures.rest

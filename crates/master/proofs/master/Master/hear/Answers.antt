@@ -1,9 +1,0 @@
-use Rattle.master.specs.Cycles.{card_of}
-use Rattle.master.proofs.Turning.{not_over}
-use Rattle.master.proofs.master.Master.hear.Goals as goal
-
-pub returns-in-Over-clause-nearer : goal.returns-in-Over-clause-nearer
-returns-in-Over-clause-nearer c = not_over c.in-Over.is (card_of c.args.self.now c.args.queues.now)
-
-pub returns-in-Over-clause-counted : goal.returns-in-Over-clause-counted
-returns-in-Over-clause-counted c = not_over c.in-Over.is (card_of c.args.self.now c.args.queues.now)

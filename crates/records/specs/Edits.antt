@@ -2,7 +2,7 @@
 -- An edit asks for configuration mode; an opened projection is in that mode. The first refusal that applies is returned, and
 -- nothing changes then.
 -- A reader compares them with the list of edits in docs/RECORD.md.
-use Rattle.std.specs.Prelude.{ℕ, Bool, true, false, cond, ◌&&◌, List, ◌==◌, nat_lt, slice_set}
+use Rattle.std.specs.Prelude.{ℕ, ◌+◌, Bool, true, false, cond, ◌&&◌, List, [], ◌∷◌, ◌==◌, nat_lt, slice_set}
 use Rattle.values.specs.Refusals.{Outcome, gives, refuses, accepts}
 use Rattle.values.specs.Tables.{table}
 use Rattle.records.specs.Rows.{Pair, Row, no_codes, row_at, is_module_address}
@@ -54,3 +54,13 @@ edited taking_over rs = table (λ a. taken_over a (row_at a rs))
 
 abbrev pub edit_after : Mode → Edit → List Row → List Row
 edit_after mode e rs = cond (accepts (edit_outcome mode e)) (edited e rs) rs
+
+-- Edits in this mode, one after another: what they do, and how many of them are accepted
+
+abbrev pub all_edited : Mode → List Edit → List Row → List Row
+all_edited mode [] rs = rs
+all_edited mode (e ∷ es) rs = all_edited mode es (edit_after mode e rs)
+
+abbrev pub accepted_edits : Mode → List Edit → ℕ
+accepted_edits mode [] = 0
+accepted_edits mode (e ∷ es) = cond (accepts (edit_outcome mode e)) 1 0 + accepted_edits mode es

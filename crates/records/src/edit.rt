@@ -1,4 +1,6 @@
-ghost use Rattle.records.specs.Edits.{change_of, projecting, unprojecting, taking_over};
+ghost use Rattle.std.specs.Prelude.{◌≡◌, map};
+ghost use Rattle.records.specs.Records.{rows};
+ghost use Rattle.records.specs.Edits.{change_of, projecting, unprojecting, taking_over, all_edited, accepted_edits};
 ghost use Rattle.records.specs.Editing.{EditedBy};
 
 use super::entry::Codes;
@@ -23,7 +25,13 @@ pub enum Edit {
 
 impl Record {
     /// Projects an address: stores its codes and its permanent parameter, and lists it.
-    pub fn project(&mut self, address: u32, io: u32, id: u32, parameter: u32) -> Result<(), Refusal>
+    pub fn project_module(
+        &mut self,
+        address: u32,
+        io: u32,
+        id: u32,
+        parameter: u32,
+    ) -> Result<(), Refusal>
         ensures { EditedBy (projecting address io id parameter) self.old result self.new }
     {
         let to = ModuleAddress::try_from(address)?;
@@ -39,7 +47,7 @@ impl Record {
     }
 
     /// Takes an address out of the projection.
-    pub fn unproject(&mut self, address: u32) -> Result<(), Refusal>
+    pub fn unproject_module(&mut self, address: u32) -> Result<(), Refusal>
         ensures { EditedBy (unprojecting address) self.old result self.new }
     {
         let to = ModuleAddress::try_from(address)?;
@@ -73,9 +81,22 @@ impl Record {
                 io,
                 id,
                 parameter,
-            } => self.project(address, io, id, parameter),
-            Edit::Unproject(address) => self.unproject(address),
+            } => self.project_module(address, io, id, parameter),
+            Edit::Unproject(address) => self.unproject_module(address),
             Edit::TakeOver => self.take_over(),
         }
+    }
+
+    /// Makes edits; how many were accepted.
+    pub fn edit_all(&mut self, edits: &[Edit]) -> usize
+        ensures mode { self.new.mode ≡ self.old.mode }
+        ensures accepted { result ≡ accepted_edits self.old.mode (map change_of edits.now) }
+        ensures rows { rows self.new.rows ≡ all_edited self.old.mode (map change_of edits.now) (rows self.old.rows) }
+    {
+        let mut accepted = 0;
+        for edit in edits {
+            accepted += usize::from(self.edit(*edit).is_ok());
+        }
+        accepted
     }
 }

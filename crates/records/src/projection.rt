@@ -1,7 +1,7 @@
-ghost use Rattle.std.specs.Prelude.{◌≡◌};
+ghost use Rattle.std.specs.Prelude.{◌≡◌, map};
 ghost use Rattle.values.specs.Refusals.{outcome};
 ghost use Rattle.records.specs.Records.{rows};
-ghost use Rattle.records.specs.Edits.{change_of, edit_outcome, edit_after, projecting, unprojecting, taking_over};
+ghost use Rattle.records.specs.Edits.{change_of, edit_outcome, edit_after, projecting, unprojecting, taking_over, all_edited, accepted_edits};
 ghost use Rattle.records.specs.Editing.{EditedThrough};
 
 use super::edit::Edit;
@@ -43,16 +43,22 @@ impl<'a> Projection<'a> {
 
 // Each edit is the record's own call, lent as long as the projection lasts; which of them a value names is asked in `Record::edit` alone.
 impl Projection<'_> {
-    pub fn project(&mut self, address: u32, io: u32, id: u32, parameter: u32) -> Result<(), Refusal>
+    pub fn project_module(
+        &mut self,
+        address: u32,
+        io: u32,
+        id: u32,
+        parameter: u32,
+    ) -> Result<(), Refusal>
         ensures { EditedThrough (projecting address io id parameter) self.old result self.new }
     {
-        self.target.project(address, io, id, parameter)
+        self.target.project_module(address, io, id, parameter)
     }
 
-    pub fn unproject(&mut self, address: u32) -> Result<(), Refusal>
+    pub fn unproject_module(&mut self, address: u32) -> Result<(), Refusal>
         ensures { EditedThrough (unprojecting address) self.old result self.new }
     {
-        self.target.unproject(address)
+        self.target.unproject_module(address)
     }
 
     pub fn take_over(&mut self) -> Result<(), Refusal>
@@ -66,5 +72,40 @@ impl Projection<'_> {
         ensures { EditedThrough (change_of edit) self.old result self.new }
     {
         self.target.edit(edit)
+    }
+
+    // Calls that end the projection: of one that ends otherwise a caller knows less (docs/DECISIONS.md).
+
+    /// Makes an edit, and ends the projection.
+    pub fn edit_once(self, last: Edit) -> Result<(), Refusal>
+        ensures mode { self.exit.0.now.mode ≡ self.entry.former }
+        ensures came_to { outcome (λ u. u) result ≡ edit_outcome self.entry.target.now.mode (change_of last) }
+        ensures rows { rows self.exit.0.now.rows
+            ≡ edit_after self.entry.target.now.mode (change_of last) (rows self.entry.target.now.rows) }
+    {
+        self.target.edit(last)
+    }
+
+    /// Makes edits, one after another, and ends the projection; how many were accepted.
+    pub fn edit_all(self, edits: &[Edit]) -> usize
+        ensures mode { self.exit.0.now.mode ≡ self.entry.former }
+        ensures accepted { result
+            ≡ accepted_edits self.entry.target.now.mode (map change_of edits.now) }
+        ensures rows { rows self.exit.0.now.rows ≡ all_edited self.entry.target.now.mode
+            (map change_of edits.now) (rows self.entry.target.now.rows) }
+    {
+        self.target.edit_all(edits)
+    }
+}
+
+impl Record {
+    /// Opens a projection, makes edits through it and ends it; how many were accepted.
+    pub fn project_all(&mut self, edits: &[Edit]) -> usize
+        ensures mode { self.new.mode ≡ self.old.mode }
+        ensures accepted { result ≡ accepted_edits Mode.Configuration (map change_of edits.now) }
+        ensures rows { rows self.new.rows
+            ≡ all_edited Mode.Configuration (map change_of edits.now) (rows self.old.rows) }
+    {
+        Projection::open(self).edit_all(edits)
     }
 }

@@ -4,7 +4,7 @@ use Rattle.std.specs.List.{AllByRecursion}
 use Rattle.std.proofs.ByRecursion.{All-drop}
 use Rattle.std.proofs.lemmas.Bool.{and_from, false≢true}
 use Rattle.telegrams.specs.Requests.{nibble, data_exchange, read_io, read_id, write_parameter}
-use Rattle.stations.specs.Stations.{State, Place, occupied, reply, with_parameter}
+use Rattle.stations.specs.Stations.{State, Place, occupied, powered_up, reply, with_parameter}
 use Rattle.lines.specs.Lines.{Meaning, at}
 use Rattle.records.specs.Rows.{Pair, Row, row_at}
 use Rattle.phases.specs.Visits.{Visit, left_alone}
@@ -51,7 +51,7 @@ module _
     abbrev start : Scene
     start = beginning c line
 
-    not_held : held_off c.control line ≡ false
+    not_held : held_off c.control line.power ≡ false
     not_held = ap₂ (λ w p. w || not p) adm.not_offline adm.powered
 
     runs : (p : Phase) → c.control.phase ≡ p → cycle c line ≡ run p start
@@ -253,7 +253,7 @@ module _ (b : ℕ) (one : 1 ≤ b) (hb : b < 32) where
 
   -- the module that the first cycle meets, or any where there is none
   first_module : (ds : List Met) → AllByRecursion (Stays b) ds → (x : State) × Meets b x ds
-  first_module [] stays = (record { io = 0; id = 0; inputs = 0; outputs = 0; parameter = 0; direction = 0; enabled = false; disturbance = 0 }, tt)
+  first_module [] stays = (powered_up 0 0 0, tt)
   first_module (d ∷ ds) stays = (stays.0.0, (stays.0.0.inputs, stays.0.1.there))
 
 pub waiting_bound : (order_room answer_room : ℕ) (p q : List Turn) → WaitingBound (after p (new_master order_room answer_room)) q

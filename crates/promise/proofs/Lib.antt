@@ -1,7 +1,10 @@
 pub mod Answering
 pub mod Bound
+pub mod Families
 pub mod Far
+pub mod InOrder
 pub mod Keeps
+pub mod Made
 pub mod Moments
 pub mod Once
 pub mod Promise

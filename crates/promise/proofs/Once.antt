@@ -1,5 +1,5 @@
 -- A normal cycle exchanges once with each address that is active at its start and with no other, and sends at most 33 requests: at most 31
--- in data exchange, at most one in management and at most one in the search.
+-- in data exchange, at most one in management and at most one in the search. It reports how many.
 use Rattle.std.proofs.Common.{◌≡◌, ℕ, zero, suc, ◌+◌, ◌<◌, ◌≤◌, Bool, true, false, cond, eqb, ltb, List, [], ◌∷◌, ◌++◌, length, sym, refl, ap, ◌∙◌, subst, ⊎_elim, arith}
 use lib.ListN.{get_or-eq_default}
 use Rattle.std.proofs.lemmas.List.{append-nil, length-append}
@@ -18,6 +18,7 @@ use Rattle.search.specs.Searches.{search_visit, taken_by}
 use Rattle.control.specs.declared.control.Phase.TheVariants.{Normal}
 use Rattle.control.specs.Cycles.{Master, Scene, new_master, beginning, everywhere, only, visit_made, exchange, carry_out, manage_by, manage, search_on, run, running, cycle}
 use Rattle.promise.specs.Successions.{Turn, after}
+use Rattle.promise.specs.Outcomes.{ran}
 use Rattle.promise.specs.Waiting.{sent_to, exchanges}
 use Rattle.promise.specs.Once.{OnceEach}
 use Rattle.promise.proofs.Moments.{Orderable, Orderly}
@@ -196,6 +197,7 @@ once_normal c line stands normal =
       exactly = λ b. ap (λ (s : Scene). exchanged_with b s.sent) is ∙ z.none b ∙ m.none b ∙ exchange_once c line stands b;
       at_most =
           subst (λ (s : Scene). length s.sent ≤ 33) (sym is) (omega (arith, m.few, z.few, exchange_at_most c line stands));
+      reported = ap (λ p. ran p (length (cycle c line).sent)) normal;
     }
 
 pub exchanges_once : (order_room answer_room : ℕ) (p : List Turn) (line : Meaning) → running (after p (new_master order_room answer_room)).control line ≡ Normal → OnceEach (after p (new_master order_room answer_room)) line

@@ -13,7 +13,7 @@ use Rattle.control.specs.declared.control.Phase.{Phase}
 use Rattle.control.specs.declared.control.Phase.TheVariants.{Offline, Detection, Activation, Normal}
 use Rattle.lines.specs.Lines.{Meaning}
 use Rattle.control.specs.Cycles.{Control, Master, Scene, with_control, beginning, everywhere, exchange, ending_at, carry_out, manage_by, manage, search_on, stay_offline, run, running, cycle}
-use Rattle.promise.specs.Successions.{order_from, Call, placing, collecting, writing_outputs, reading_inputs, reading_lists, setting_mode, setting_offline, editing, projecting_all, Turn, cycling, calling, placing_outcome, waiting_after, with_queues, called, after}
+use Rattle.promise.specs.Successions.{order_from, Call, placing, collecting, reading, writing, setting, editing, projecting_all, Turn, cycling, calling, placing_outcome, waiting_after, with_queues, called, after}
 use Rattle.promise.specs.Answering.{order_in, accepted_by_call, put_by, first_of, collected_by_call}
 
 -- there is room for the answer of every order that waits
@@ -126,11 +126,9 @@ serves_placing c (gives q) = by (is_normal c.control.phase) (row_at q.to c.contr
 pub call_serves : (k : Call) (c : Master) → Serves c (called k c) (accepted_by_call k c) (collected_by_call k c)
 call_serves (placing w) c = serves_placing c (order_from w)
 call_serves collecting c = serves_collecting c c.answers refl
-call_serves (writing_outputs a n) c = serves_none c (called (writing_outputs a n) c).control
-call_serves (reading_inputs a) c = serves_none c c.control
-call_serves reading_lists c = serves_none c c.control
-call_serves (setting_mode mode) c = serves_none c (called (setting_mode mode) c).control
-call_serves (setting_offline on) c = serves_none c (called (setting_offline on) c).control
+call_serves (reading r) c = serves_none c c.control
+call_serves (writing w) c = serves_none c (called (writing w) c).control
+call_serves (setting s) c = serves_none c (called (setting s) c).control
 call_serves (editing e) c = serves_none c (called (editing e) c).control
 call_serves (projecting_all es) c = serves_none c (called (projecting_all es) c).control
 

@@ -23,7 +23,7 @@ use Rattle.control.specs.Placing.{is_normal}
 use Rattle.control.specs.declared.control.Phase.{Phase}
 use Rattle.control.specs.declared.control.Phase.TheVariants.{Offline, Detection, Activation, Normal}
 use Rattle.control.specs.Cycles.{Master, Scene, new_control, new_master, beginning, visit_made, only, exchange, run, running, everywhere, manage_by, manage, search_on, stay_offline, cycle}
-use Rattle.promise.specs.Successions.{Turn, cycling, calling, setting_mode, editing, called, after, Met, cycles}
+use Rattle.promise.specs.Successions.{Turn, cycling, calling, setting, of_mode, editing, called, after, Met, cycles}
 use Rattle.promise.specs.Waiting.{sent_to, exchanges, resets, codes_of, ProjectedSo, Stays, StaysPlugged, Unaltered, LeftInPlace, row_met, done}
 use Rattle.promise.proofs.Bound.{waiting_bound}
 use Rattle.promise.proofs.Sending.{sent-to-append, sent_to_below}
@@ -259,20 +259,20 @@ module _ (order_room answer_room b : ℕ) where
   first_done = cycle first full
 
   abbrev second : Master
-  second = called (setting_mode Protected) first_done.master
+  second = called (setting (of_mode Protected)) first_done.master
 
   abbrev second_done : Scene
   second_done = cycle second first_done.line
 
   abbrev third : Master
-  third = called (setting_mode Configuration) second_done.master
+  third = called (setting (of_mode Configuration)) second_done.master
 
   abbrev following : List Turn
   following =
       cycling full
-      ∷ calling (setting_mode Protected)
+      ∷ calling (setting (of_mode Protected))
       ∷ cycling first_done.line
-      ∷ calling (setting_mode Configuration)
+      ∷ calling (setting (of_mode Configuration))
       ∷ staying 96 third second_done.line
 
   abbrev first_waits : Bool

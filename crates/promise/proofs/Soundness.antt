@@ -22,7 +22,7 @@ use Rattle.control.specs.declared.control.Phase.TheVariants.{Offline, Detection,
 use Rattle.control.specs.Cycles.{Master, Scene, new_control, new_master, beginning, everywhere, exchange, carry_out, manage_by, manage, search_on}
 use Rattle.control.specs.Cycles.{phased, held_off, stay_offline, run, cycle}
 use Rattle.promise.specs.Successions.{Placement, parameter, reset, order_from, Call, Turn, cycling, calling, waiting_after, placing_outcome, called, turned, after}
-use Rattle.promise.specs.Successions.{placing, collecting, writing_outputs, reading_inputs, reading_lists, setting_mode, setting_offline, editing, projecting_all}
+use Rattle.promise.specs.Successions.{placing, collecting, reading, writing, setting, editing, projecting_all}
 use Rattle.promise.proofs.Sees.{Moment, Sees, visiting, entering, first_moment, sees_beginning, sees_everywhere, sees_phased}
 use Rattle.promise.proofs.Far.{Picked, picks, near_any, next_lt}
 use Rattle.promise.proofs.Visits.{Milder, milder_exchange, milder_order, milder_seek, milder_name, milder_detect, few_entering, few_search, admissible_not_zero}
@@ -260,8 +260,8 @@ module _ (b : ℕ) (h : b < 32) (c : Master) (line : Meaning) (kept : Kept b c) 
   kept_offline : Kept b (stay_offline (beginning c line)).master
   unfolding stay_offline
   kept_offline = (
-    subst (λ (r : Row). Sound b (view_of (cond (held_off c.control line) Offline Detection) (seek 0) r)) (sym (cleared b h))
-        (go (held_off c.control line)),
+    subst (λ (r : Row). Sound b (view_of (cond (held_off c.control line.power) Offline Detection) (seek 0) r)) (sym (cleared b h))
+        (go (held_off c.control line.power)),
     ap (λ (r : Row). r.active) (cleared 0 (omega arith)),
     kept.2,
   )
@@ -282,7 +282,7 @@ module _ (b : ℕ) (h : b < 32) (c : Master) (line : Meaning) (kept : Kept b c) 
   pub kept_cycle : Kept b (cycle c line).master
   unfolding cycle
   kept_cycle =
-      elim (held_off c.control line) as (λ t. Kept b (run (cond t Offline c.control.phase) (beginning c line)).master)
+      elim (held_off c.control line.power) as (λ t. Kept b (run (cond t Offline c.control.phase) (beginning c line)).master)
       [ true ↦ kept_offline | false ↦ kept_run c.control.phase refl ]
 
 -- Through the other calls, and from new
@@ -308,11 +308,9 @@ orderly_placed (refuses_for n c) o os fit all = all
 orderly_call : (k : Call) (c : Master) → Orderly c.orders → Orderly (called k c).orders
 orderly_call (placing w) c all = orderly_placed (order_from w) (placing_outcome (order_from w) c) c.orders (placeable w) all
 orderly_call collecting c all = all
-orderly_call (writing_outputs a n) c all = all
-orderly_call (reading_inputs a) c all = all
-orderly_call reading_lists c all = all
-orderly_call (setting_mode mode) c all = all
-orderly_call (setting_offline on) c all = all
+orderly_call (reading r) c all = all
+orderly_call (writing w) c all = all
+orderly_call (setting s) c all = all
 orderly_call (editing e) c all = all
 orderly_call (projecting_all es) c all = all
 

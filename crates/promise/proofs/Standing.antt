@@ -1,18 +1,19 @@
 -- What holds of a master all along a succession, and tells what a normal cycle sends: there are 32 rows, address 0 is not active, and the
 -- orders that wait are a parameter's or a reset.
-use Rattle.std.proofs.Common.{◌≡◌, ℕ, Bool, true, false, cond, List, [], ◌∷◌, length, set, ◌∙◌, arith}
+use Rattle.std.proofs.Common.{◌≡◌, ℕ, Bool, true, false, cond, List, [], ◌∷◌, length, set, ap, ◌∙◌, arith}
 use Rattle.std.proofs.lemmas.List.{length-set}
 use Rattle.values.specs.Refusals.{accepts}
 use Rattle.values.proofs.Tables.{length-table}
 use Rattle.lines.specs.Lines.{Meaning}
-use Rattle.records.specs.Rows.{Row, row_at, outputs_outcome}
-use Rattle.records.specs.Edits.{Edit, projecting, unprojecting, taking_over, edit_outcome, edited, edit_after}
+use Rattle.records.specs.Rows.{Row, row_at}
+use Rattle.records.specs.Edits.{Edit, projecting, unprojecting, taking_over, edit_outcome, edited, edit_after, all_edited}
 use Rattle.records.specs.declared.record.Mode.{Mode}
 use Rattle.records.specs.declared.record.Mode.TheVariants.{Configuration}
 use Rattle.control.specs.declared.control.Phase.{Phase}
 use Rattle.control.specs.declared.control.Phase.TheVariants.{Offline, Detection, Activation, Normal}
 use Rattle.control.specs.Cycles.{Master, new_control, new_master, beginning, everywhere, search_on, stay_offline, run, running, cycle}
-use Rattle.promise.specs.Successions.{Call, placing, collecting, writing_outputs, reading_inputs, reading_lists, setting_mode, setting_offline, editing, projecting_all, Turn, cycling, calling, all_edited, called, turned, after}
+use Rattle.promise.specs.Successions.{Call, placing, collecting, reading, writing, setting, editing, projecting_all, Turn, cycling, calling, called, turned, after}
+use Rattle.promise.proofs.Families.{writes, sets}
 use Rattle.promise.proofs.Moments.{Orderly}
 use Rattle.promise.proofs.Soundness.{kept_after, kept_new}
 
@@ -54,11 +55,9 @@ sized_edits (e ∷ es) rs z = sized_edits es (edit_after Configuration e rs) (si
 sized_call : (k : Call) (c : Master) → Sized c.control.rows → Sized (called k c).control.rows
 sized_call (placing w) c z = z
 sized_call collecting c z = z
-sized_call (writing_outputs a n) c z = sized_cond (accepts (outputs_outcome a n)) _ c.control.rows (sized_set c.control.rows a _ z) z
-sized_call (reading_inputs a) c z = z
-sized_call reading_lists c z = z
-sized_call (setting_mode mode) c z = z
-sized_call (setting_offline on) c z = z
+sized_call (reading r) c z = z
+sized_call (writing w) c z = (writes w c.control.rows).sized z
+sized_call (setting s) c z = ap length (sets s c.control).rows_are ∙ z
 sized_call (editing e) c z = sized_edit c.control.mode e c.control.rows z
 sized_call (projecting_all es) c z = sized_edits es c.control.rows z
 

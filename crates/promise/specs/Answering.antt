@@ -10,7 +10,7 @@ use Rattle.orders.specs.Orders.{Told}
 use Rattle.control.specs.Placing.{is_normal}
 use Rattle.lines.specs.Lines.{Meaning}
 use Rattle.control.specs.Cycles.{Master, beginning, exchange, ending_at, running, cycle}
-use Rattle.promise.specs.Successions.{Placement, order_from, Call, placing, collecting, writing_outputs, reading_inputs, reading_lists, setting_mode, setting_offline, editing, projecting_all, Turn, cycling, calling, placing_outcome, called, after, Met}
+use Rattle.promise.specs.Successions.{Placement, order_from, Call, placing, collecting, reading, writing, setting, editing, projecting_all, Turn, cycling, calling, placing_outcome, called, after, Met}
 use Rattle.promise.specs.Waiting.{done}
 
 -- What a succession has accepted, answered and collected, in order
@@ -23,11 +23,9 @@ order_in (refuses_for n c) o = []
 abbrev pub accepted_by_call : Call → Master → List Sent
 accepted_by_call (placing w) c = order_in (order_from w) (placing_outcome (order_from w) c)
 accepted_by_call collecting c = []
-accepted_by_call (writing_outputs a n) c = []
-accepted_by_call (reading_inputs a) c = []
-accepted_by_call reading_lists c = []
-accepted_by_call (setting_mode mode) c = []
-accepted_by_call (setting_offline on) c = []
+accepted_by_call (reading r) c = []
+accepted_by_call (writing w) c = []
+accepted_by_call (setting s) c = []
 accepted_by_call (editing e) c = []
 accepted_by_call (projecting_all es) c = []
 
@@ -52,11 +50,9 @@ first_of (x ∷ xs) = x ∷ []
 abbrev pub collected_by_call : Call → Master → List Told
 collected_by_call (placing w) c = []
 collected_by_call collecting c = first_of c.answers
-collected_by_call (writing_outputs a n) c = []
-collected_by_call (reading_inputs a) c = []
-collected_by_call reading_lists c = []
-collected_by_call (setting_mode mode) c = []
-collected_by_call (setting_offline on) c = []
+collected_by_call (reading r) c = []
+collected_by_call (writing w) c = []
+collected_by_call (setting s) c = []
 collected_by_call (editing e) c = []
 collected_by_call (projecting_all es) c = []
 

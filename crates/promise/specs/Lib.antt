@@ -2,6 +2,9 @@ pub mod Successions
 pub mod Waiting
 pub mod Once
 pub mod Answering
+pub mod InOrder
 pub mod Promise
+pub mod Outcomes
+pub mod Calls
 pub mod Sharp
 pub mod Longest

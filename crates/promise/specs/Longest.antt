@@ -1,13 +1,13 @@
 -- The lines of the longest wait at an address: at first nothing stands on the line, then another module stands alone at the address, and from
 -- plugging on a new module stands at every address. The succession that waits so long runs on them (`proofs/Sharp.antt`), and so does the
 -- program `worst_case` at address 1. A reader compares them with docs/PROMISE.md, "97 is the least number that holds".
-use Rattle.std.specs.Prelude.{ℕ, true, false, List, replicate, slice_set}
-use Rattle.stations.specs.Stations.{State, Place, vacant, occupied}
+use Rattle.std.specs.Prelude.{ℕ, true, List, replicate, slice_set}
+use Rattle.stations.specs.Stations.{State, Place, vacant, occupied, powered_up}
 use Rattle.lines.specs.Lines.{Meaning}
 
 -- a module as it comes, with this I/O code
 abbrev pub fresh : ℕ → State
-fresh k = record { io = k; id = 1; inputs = 9; outputs = 15; parameter = 15; direction = 0; enabled = false; disturbance = 0 }
+fresh k = powered_up k 1 9
 
 abbrev pub all_vacant : List Place
 all_vacant = replicate 32 vacant

@@ -9,6 +9,7 @@ use Rattle.promise.specs.Successions.{Placement, placing, Turn, cycling, calling
 use Rattle.promise.specs.Waiting.{WaitingBound}
 use Rattle.promise.specs.Once.{OnceEach}
 use Rattle.promise.specs.Answering.{FirstCome, AnsweredInTurn}
+use Rattle.promise.specs.InOrder.{all_come_to, InOrder}
 
 pub record Promise (new : Master) (ts : List Turn) : Type 0 where
   -- with a module that is plugged in after p and stays through q, data is exchanged in cycle 98 from there and in every later one, whatever comes in r
@@ -16,6 +17,7 @@ pub record Promise (new : Master) (ts : List Turn) : Type 0 where
   -- each accepted order is answered in its turn, in time and in no other cycle; answers are collected in the order of acceptance
   pub answered_in_turn : (p q : List Turn) (w : Placement) → ts ≡ p ++ calling (placing w) ∷ q → AnsweredInTurn new p w q
   pub first_come : (p q : List Turn) → ts ≡ p ++ q → FirstCome new p
-  -- each normal cycle exchanges exactly once with each active address and with no other, and sends at most 33 requests; that it reports as
-  -- many as the rules send is part of what a run says of each cycle
+  -- and the log shows it: over any stretch q, what was pending and what was accepted since is what was collected and what is pending then
+  pub in_order : (p q r : List Turn) → ts ≡ p ++ q ++ r → InOrder (after p new) q (all_come_to q (after p new)) (after q (after p new))
+  -- each normal cycle exchanges exactly once with each active address and with no other, sends at most 33 requests, and reports how many
   pub once_each : (p q : List Turn) (line : Meaning) → ts ≡ p ++ cycling line ∷ q → running (after p new).control line ≡ Normal → OnceEach (after p new) line

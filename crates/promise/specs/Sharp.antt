@@ -1,24 +1,16 @@
 -- The waiting bound is sharp: at every address 1 to 31 a module can be plugged in so that it meets all that the bound asks, and yet no cycle up to 97
 -- exchanges with it. So no smaller number would do. The checker computes these successions, for queues of any room, so they also show that the
 -- hypotheses of the bound can be met.
-use Rattle.std.specs.Prelude.{◌≡◌, ℕ, ◌+◌, ◌<◌, ◌≤◌, Bool, true, not, ◌&&◌, nat_lt, ◌==◌, List, [], ◌∷◌, length, take, drop}
+use Rattle.std.specs.Prelude.{◌≡◌, ℕ, ◌+◌, ◌<◌, ◌≤◌, Bool, true, not, ◌&&◌, ◌==◌, List, [], ◌∷◌, length, take, drop}
 use Rattle.std.specs.List.{AllByRecursion, list_all}
-use Rattle.stations.specs.Stations.{State, Place, vacant, occupied}
+use Rattle.stations.specs.Stations.{fitting}
 use Rattle.lines.specs.Lines.{Meaning}
 use Rattle.records.specs.Modes.{in_configuration}
 use Rattle.control.specs.Cycles.{Master, new_master}
 use Rattle.promise.specs.Successions.{Turn, cycling, calling, after, Met, cycles}
 use Rattle.promise.specs.Waiting.{done, sent_to, exchanges, StaysPlugged, Exchanged, WaitsAtMost}
 
--- A line that there can be: it has 32 places, a module's values are nibbles, and its disturbance count is below 8
-
-abbrev nibbles : State → List ℕ
-nibbles x = x.io ∷ x.id ∷ x.inputs ∷ x.outputs ∷ x.parameter ∷ x.direction ∷ []
-
-abbrev fitting : Place → Bool
-fitting vacant = true
-fitting (occupied x) = list_all (λ n. nat_lt n 16) (nibbles x) && nat_lt x.disturbance 8
-
+-- a line that there can be: it has 32 places, and each is a station that there can be
 abbrev pub lawful : Meaning → Bool
 lawful l = length l.places == 32 && list_all fitting l.places
 

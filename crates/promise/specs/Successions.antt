@@ -7,7 +7,7 @@ use Rattle.queues.specs.Fifo.{take_after}
 use Rattle.telegrams.specs.Requests.{Sent, with_nibble, write_parameter}
 use Rattle.records.specs.Rows.{Row, outputs_after}
 use Rattle.records.specs.Modes.{mode_after}
-use Rattle.records.specs.Edits.{Edit, edit_after}
+use Rattle.records.specs.Edits.{Edit, edit_after, all_edited}
 use Rattle.records.specs.declared.record.Mode.{Mode}
 use Rattle.records.specs.declared.record.Mode.TheVariants.{Configuration}
 use Rattle.orders.specs.Orders.{reset_ordered, Told}
@@ -25,15 +25,26 @@ abbrev pub order_from : Placement → Outcome Sent
 order_from (parameter a n) = with_nibble write_parameter a n
 order_from (reset a) = reset_ordered a
 
+-- what is read of the master, what is written to it and what is set, each with any numbers
+
+pub data Reading : Type 0 where
+  of_inputs : ℕ → Reading
+  of_lists : Reading
+
+pub data Writing : Type 0 where
+  of_outputs : ℕ → ℕ → Writing
+
+pub data Setting : Type 0 where
+  of_mode : Mode → Setting
+  of_offline : Bool → Setting
+
 -- the calls other than the cycle; all the edits of a projection, from its opening to its end, are one call
 pub data Call : Type 0 where
   placing : Placement → Call
   collecting : Call
-  writing_outputs : ℕ → ℕ → Call
-  reading_inputs : ℕ → Call
-  reading_lists : Call
-  setting_mode : Mode → Call
-  setting_offline : Bool → Call
+  reading : Reading → Call
+  writing : Writing → Call
+  setting : Setting → Call
   editing : Edit → Call
   projecting_all : List Edit → Call
 
@@ -57,19 +68,19 @@ with_queues os xs c = record c { orders = os; answers = xs }
 abbrev pub with_offline : Bool → Control → Control
 with_offline on m = record m { offline = on }
 
--- edits in this mode, one after another
-abbrev pub all_edited : Mode → List Edit → List Row → List Row
-all_edited mode [] rs = rs
-all_edited mode (e ∷ es) rs = all_edited mode es (edit_after mode e rs)
+abbrev pub written : Writing → List Row → List Row
+written (of_outputs a n) rs = outputs_after a n rs
+
+abbrev pub set_by : Setting → Control → Control
+set_by (of_mode mode) m = with_mode (mode_after mode m.mode m.rows) m
+set_by (of_offline on) m = with_offline on m
 
 abbrev pub called : Call → Master → Master
 called (placing w) c = with_queues (waiting_after (order_from w) (placing_outcome (order_from w) c) c.orders) c.answers c
 called collecting c = with_queues c.orders (take_after c.answers) c
-called (writing_outputs a n) c = with_control (with_rows (outputs_after a n c.control.rows) c.control) c
-called (reading_inputs a) c = c
-called reading_lists c = c
-called (setting_mode mode) c = with_control (with_mode (mode_after mode c.control.mode c.control.rows) c.control) c
-called (setting_offline on) c = with_control (with_offline on c.control) c
+called (reading r) c = c
+called (writing w) c = with_control (with_rows (written w c.control.rows) c.control) c
+called (setting s) c = with_control (set_by s c.control) c
 called (editing e) c = with_control (with_rows (edit_after c.control.mode e c.control.rows) c.control) c
 called (projecting_all es) c = with_control (with_rows (all_edited Configuration es c.control.rows) c.control) c
 

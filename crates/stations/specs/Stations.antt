@@ -1,7 +1,8 @@
 -- What stands at the stations of a line, and what a request does there: first what an undisturbed module obeys and answers (rules 3 to 7), then the
 -- station around it (rules 1 and 2).
 -- A reader compares `obeyed`, `answer`, `after` and `reply` with the rules in docs/LINES.md, line by line; nothing else is said of a module.
-use Rattle.std.specs.Prelude.{ℕ, ◌-◌, Bool, true, false, cond, not, ◌||◌, Some, None, Option, ◌==◌, bit_and, bit_or, nat_lt}
+use Rattle.std.specs.Prelude.{ℕ, ◌-◌, Bool, true, false, cond, not, ◌&&◌, ◌||◌, List, [], ◌∷◌, Some, None, Option, ◌==◌, bit_and, bit_or, nat_lt}
+use Rattle.std.specs.List.{list_all}
 use Rattle.telegrams.specs.Requests.{Asking, Heard, data_exchange, write_parameter, read_io, read_id, resetting, nibble, silence, disturbed}
 use Rattle.stations.specs.declared.station.Module.{Module}
 use Rattle.stations.specs.declared.station.Station.{Station}
@@ -21,6 +22,21 @@ pub record State : Type 0 where
 pub data Place : Type 0 where
   vacant : Place
   occupied : State → Place
+
+-- a module as it comes, with these codes and inputs: all of its ports are inputs, outputs, parameter and mark are as Reset leaves them, and nothing
+-- disturbs it
+abbrev pub powered_up : ℕ → ℕ → ℕ → State
+powered_up io id inputs =
+    record { io = io; id = id; inputs = inputs; outputs = 15; parameter = 15; direction = 0; enabled = false; disturbance = 0 }
+
+-- A station that there can be: a module's values are nibbles, and its disturbance count is below 8
+
+abbrev pub nibbles : State → List ℕ
+nibbles x = x.io ∷ x.id ∷ x.inputs ∷ x.outputs ∷ x.parameter ∷ x.direction ∷ []
+
+abbrev pub fitting : Place → Bool
+fitting vacant = true
+fitting (occupied x) = list_all (λ n. nat_lt n 16) (nibbles x) && nat_lt x.disturbance 8
 
 -- what the program's module and station mean
 

@@ -18,12 +18,8 @@ use Rattle.orders.specs.Management.{Ended, manage_dialogue, manage_visit}
 use Rattle.search.specs.Steps.{Stage, seek, name, enter, step_after}
 use Rattle.search.specs.Searches.{Stepped, search_dialogue, search_visit, taken_by, deciding, next_step}
 use Rattle.control.specs.Cycles.{Master, Scene, everywhere, ending_at, answered, carry_out, manage_by, stepping, search_on}
-use Rattle.control.specs.Cycling.{with_master_rows, with_master_row, row_in_master, with_each, put_answer, managing, to_step, searching}
+use Rattle.control.specs.Cycling.{course_of, with_master_rows, with_master_row, row_in_master, with_each, put_answer, managing, to_step, searching}
 use Rattle.control.proofs.Visiting.{visited_there, one_visited}
-
--- a moment of a cycle, as what its conversation came to
-abbrev pub course_of : Scene → Course Master
-course_of s = record { comes_to = s.master; places = s.line.places; sent = s.sent }
 
 -- what was sent so far, and what the conversation goes on to
 abbrev pub goes_on : (Master → Conversation Master) → Scene → Course Master

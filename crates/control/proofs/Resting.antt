@@ -24,6 +24,7 @@ use Rattle.search.specs.Steps.{step_after}
 use Rattle.control.specs.Cycles.{Control, Master, with_step, with_rows}
 use Rattle.control.specs.Cycling.{row_in_master, with_master_rows, with_master_row, to_step, to_phase, managing, searching}
 use Rattle.control.specs.declared.control.Phase.TheVariants.{Activation, Normal}
+use Rattle.control.proofs.Serving.{oldest_is}
 use Rattle.control.specs.Turns.{with_each_from, detect_rest, activate_rest, manage_rest, exchange_rest, entered_with, enter_asking, put_back, manage_turn}
 
 abbrev pub master_with : Control → Queues → Master
@@ -175,18 +176,10 @@ put_so m q q' x took put served =
 
 -- the order that is next
 
-order_or : Order → Option Order → Order
-order_or o None = o
-order_or o (Some p) = p
-
-some_order : {o p : Order} → Some o ≡ Some p → p ≡ o
-unfolding order_or
-some_order {o} {p} e = sym (ap (order_or o) e)
-
 pub next_is : (b : Bool) (os : List Order) (o : Order) → Some o ≡ cond b (oldest_of os) None → (b ≡ true) × (map ordered os ≡ ordered o ∷ drop 1 (map ordered os))
-next_is true [] o e = absurd (none-some o (sym e))
-next_is true (p ∷ os) o e = (refl, ap (λ (k : Order). ordered k ∷ map ordered os) (some_order e))
-next_is false os o e = absurd (none-some o (sym e))
+next_is b os o e =
+    let is = oldest_is b os o e in
+    (is.0, ap (map ordered) is.1 ∙ ap (λ (ws : List Sent). ordered o ∷ ws) (take_mapped os))
 
 -- an order whose address is active is sent, and any other ends at once
 module _ (o : Sent) (c : Master) (waits : c.orders ≡ o ∷ drop 1 c.orders) (has_room : nat_lt (length c.answers) c.answer_room ≡ true) where

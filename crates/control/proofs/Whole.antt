@@ -13,10 +13,10 @@ use Rattle.phases.specs.Conversations.{done}
 use Rattle.search.specs.Steps.{Stage}
 use Rattle.search.specs.Searches.{taken_by}
 use Rattle.control.specs.Cycles.{Master, Scene, beginning, everywhere, exchange, manage, stay_offline, run, cycle, running}
-use Rattle.control.specs.Cycling.{managing, searching, to_phase, conversation_in, cycle_conversation}
+use Rattle.control.specs.Cycling.{course_of, managing, searching, to_phase, conversation_in, cycle_conversation}
 use Rattle.control.specs.declared.control.Phase.{Phase}
 use Rattle.control.specs.declared.control.Phase.TheVariants.{Offline, Detection, Activation, Normal}
-use Rattle.control.proofs.Parts.{course_of, FirstInside, each_on_line, managed_on_line, managed_stays, searched_on_line}
+use Rattle.control.proofs.Parts.{FirstInside, each_on_line, managed_on_line, managed_stays, searched_on_line}
 
 module _ (c : Master) (l : Meaning) (first : FirstInside c.orders) (inside : (rs : List Row) → taken_by rs c.control.step < 32) (rows_32 : length c.control.rows ≡ 32) (places_32 : length l.places ≡ 32) where
   abbrev OnLine : Phase → Type 0

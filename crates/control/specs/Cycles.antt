@@ -157,15 +157,19 @@ abbrev pub phased : Phase → Scene → Scene
 phased p s = record s { master = with_control (with_phase p s.master.control) s.master }
 
 -- the offline phase is requested, or power is down
-abbrev pub held_off : Control → Meaning → Bool
-held_off m line = m.offline || not line.power
+abbrev pub held_off : Control → Bool → Bool
+held_off m power = m.offline || not power
+
+-- the phase in which a cycle runs, with power up or not
+abbrev pub phase_with : Bool → Control → Phase
+phase_with power m = cond (held_off m power) Offline m.phase
 
 -- nothing is sent; what was detected becomes as new, power fail is whether power is down, and without request and with power detection is next
 abbrev pub kept_offline : Bool → Control → Control
 kept_offline power m =
     record m {
       power_fail = not power;
-      phase = cond (m.offline || not power) Offline Detection;
+      phase = cond (held_off m power) Offline Detection;
       step = seek 0;
       rows = table (λ a. dropped (row_at a m.rows));
     }
@@ -180,9 +184,9 @@ run Detection s = phased Activation (everywhere (λ a. detect_visit s.line.power
 run Activation s = phased Normal (everywhere (activate_visit s.master.control.mode s.line.power) s)
 run Normal s = search_on (manage (exchange s))
 
--- the phase in which a cycle runs
+-- the phase in which a cycle on this line runs
 abbrev pub running : Control → Meaning → Phase
-running m line = cond (held_off m line) Offline m.phase
+running m line = phase_with line.power m
 
 unfoldable pub cycle : Master → Meaning → Scene
 cycle c line = run (running c.control line) (beginning c line)

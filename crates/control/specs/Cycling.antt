@@ -7,13 +7,15 @@ use Rattle.records.specs.Rows.{Row, row_at}
 use Rattle.phases.specs.Exchange.{exchange_dialogue}
 use Rattle.phases.specs.Detection.{detect_dialogue}
 use Rattle.phases.specs.Activation.{admissible, activate_dialogue}
-use Rattle.phases.specs.Conversations.{Conversation, done}
+use Rattle.phases.specs.Conversations.{Conversation, done, Course}
 use Rattle.phases.specs.Dialogues.{Dialogue, dialogue_at, dialogues_from}
 use Rattle.orders.specs.Orders.{Ending}
 use Rattle.orders.specs.Management.{manage_dialogue}
 use Rattle.search.specs.Steps.{Stage, step_after}
 use Rattle.search.specs.Searches.{search_dialogue, taken_by}
-use Rattle.control.specs.Cycles.{Master, with_rows, with_step, with_phase, with_control, kept_offline}
+use Rattle.orders.specs.declared.pair.Queues.{Queues}
+use Rattle.control.specs.Cycles.{Master, Scene, with_rows, with_step, with_phase, with_control, kept_offline, control_of, master_of, phase_with}
+use Rattle.control.specs.declared.control.ExecutionControl.{ExecutionControl}
 use Rattle.control.specs.declared.control.Phase.{Phase}
 use Rattle.control.specs.declared.control.Phase.TheVariants.{Offline, Detection, Activation, Normal}
 
@@ -75,3 +77,11 @@ conversation_in Normal power c = with_each (λ a. exchange_dialogue) c (λ d. ma
 -- whether power is up is asked as the cycle begins
 unfoldable pub cycle_conversation : Phase → Bool → Master → Conversation Master
 cycle_conversation p power c = conversation_in p power c
+
+-- a moment of a cycle on a line, as what its conversation came to
+abbrev pub course_of : Scene → Course Master
+course_of s = record { comes_to = s.master; places = s.line.places; sent = s.sent }
+
+-- all that a cycle has before it as it begins, with power up or not
+abbrev pub begun : Bool → ExecutionControl → Queues → Conversation Master
+begun power m q = cycle_conversation (phase_with power (control_of m)) power (master_of m q)

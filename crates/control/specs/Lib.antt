@@ -4,4 +4,6 @@ pub mod Listings
 pub mod Cycles
 pub mod Cycling
 pub mod Turns
+pub mod Serving
 pub mod AnyReplies
+pub mod Driving

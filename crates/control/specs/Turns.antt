@@ -1,22 +1,22 @@
 -- What is left of a cycle at each turn: a conversation, for every reply that may come. It speaks of the master as it is at that turn.
 -- A reader compares each turn with the part of a cycle (Cycling.antt) that it stands in: what is asked there, what the reply makes of the row,
 -- and the rest of that part.
-use Rattle.std.specs.Prelude.{◌≡◌, ℕ, Bool, true, false, ◌+◌, ◌-◌, ◌*◌, cond, nat_lt, length, [], ◌∷◌, ◌++◌, drop, slice_set, None}
+use Rattle.std.specs.Prelude.{◌≡◌, ℕ, Bool, ◌&&◌, ◌+◌, ◌-◌, ◌*◌, cond, nat_lt, length, [], ◌∷◌, ◌++◌, drop, slice_set, Some, None, Option}
+use Rattle.values.specs.Tables.{table}
 use Rattle.telegrams.specs.Requests.{Sent, Heard, silence, nibble, write_parameter}
+use Rattle.stations.specs.Stations.{Place}
 use Rattle.records.specs.Rows.{Row, row_at}
 use Rattle.phases.specs.Exchange.{exchanged, exchange_asking, exchange_dialogue}
 use Rattle.phases.specs.Detection.{named, name_after, detect_dialogue}
 use Rattle.phases.specs.Activation.{admissible, with_pi, entered, activate_dialogue}
-use Rattle.phases.specs.Conversations.{Conversation, done, question}
+use Rattle.phases.specs.Conversations.{Conversation, done, question, WentOn}
 use Rattle.phases.specs.Dialogues.{Dialogue, comes, asks, dialogue_at}
 use Rattle.orders.specs.Orders.{ordered, Ending}
-use Rattle.orders.specs.Management.{managed, order_asking, next_order}
-use Rattle.orders.specs.Queues.{Served}
-use Rattle.orders.specs.declared.order.Order.{Order}
+use Rattle.orders.specs.Management.{managed, order_asking}
 use Rattle.orders.specs.declared.pair.Queues.{Queues}
 use Rattle.search.specs.Steps.{seek, name, step_after}
 use Rattle.search.specs.Searches.{Stepped, sought, called, search_dialogue}
-use Rattle.control.specs.Cycles.{Control, Master, with_rows, master_of}
+use Rattle.control.specs.Cycles.{Control, Master, with_rows, with_step, master_of}
 use Rattle.control.specs.Cycling.{row_in_master, with_master_row, with_each_of, managing, searching, to_step, to_phase}
 use Rattle.control.specs.declared.control.ExecutionControl.{ExecutionControl}
 use Rattle.control.specs.declared.control.Phase.TheVariants.{Activation, Normal}
@@ -90,6 +90,9 @@ Asks t = (c : Master) → question (rest_of t c) ≡ None → ⊥
 abbrev pub AsksNothing : Turn → Type 0
 AsksNothing t = (c : Master) → question (rest_of t c) ≡ None
 
+abbrev pub NotOver : Turn → Type 0
+NotOver t = t ≡ Over → ⊥
+
 -- While something more is asked, a reply changes nothing of the execution control but the row of the address that was asked
 
 abbrev pub with_row : ℕ → (Row → Row) → Control → Control
@@ -118,22 +121,26 @@ left_at (Seek a) = 1
 left_at (Name a n) = 1
 left_at (Enter a n) = 1
 
--- an order may still end in this cycle
-abbrev pub before_answer : Turn → Bool
-before_answer Over = false
-before_answer (DetectIo a) = false
-before_answer (DetectId a n) = false
-before_answer (Activate a n) = false
-before_answer (Exchange a n) = true
-before_answer (Manage o) = true
-before_answer (Seek a) = false
-before_answer (Name a n) = false
-before_answer (Enter a n) = false
+-- At an address, for the execution control as it is
 
--- The queues are served once in a cycle: from one turn to the next they stay as they are, but where an order ends
+abbrev pub admissible_at : ℕ → Control → Bool
+admissible_at a m = admissible m.mode a (row_at a m.rows)
 
-pub record ServedBetween (t t' : Turn) (q q' : Queues) : Type 0 where
-  pub served : Served q q'
-  pub idle : ((o : Order) → t ≡ Manage o → ⊥) → next_order q ≡ None → q' ≡ q
-  pub early : before_answer t' ≡ true → (q' ≡ q) × (before_answer t ≡ true)
-  pub late : before_answer t ≡ false → q' ≡ q
+-- the address, where it is admissible, and where activation enters it
+abbrev pub admitted : ℕ → Control → Option ℕ
+admitted a m = cond (admissible_at a m) (Some a) None
+
+abbrev pub activated : ℕ → Control → Option ℕ
+activated a m = cond ((row_at a m.rows).detected && admissible_at a m) (Some a) None
+
+-- the step of the search was taken there, and h was heard
+abbrev pub step_taken : ℕ → Heard → Control → Control
+step_taken a h m = with_step (step_after m.step a h (admissible_at a m)) m
+
+-- A request of a cycle was carried by a line, and the reply was heard
+
+abbrev pub WentOnLine :
+    {L : Type 0} → (L → Sent → L → Type 0) → (L → Bool) → (L → ℕ → Place) → L → L
+    → Conversation Master → Conversation Master → Type 0
+WentOnLine carried power stations l l' rest rest' =
+    WentOn carried (power l) l l' (table (stations l)) (table (stations l')) rest rest'

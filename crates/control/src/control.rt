@@ -102,7 +102,8 @@ impl ExecutionControl {
         address: u32,
         value: u32,
     ) -> Result<(), Refusal>
-        ensures { PlacedBy self.now (with_nibble write_parameter address value) queues.old result queues.new }
+        ensures { PlacedBy self.now (with_nibble write_parameter address value)
+            queues.old result queues.new }
     {
         self.place(queues, Order::parameter(address, value)?)
     }

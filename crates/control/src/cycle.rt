@@ -1,14 +1,14 @@
-ghost use Rattle.std.specs.Prelude.{◌≡◌, ◌+◌, ◌<◌, not, ◌||◌, if◌then◌else◌};
-ghost use Rattle.values.specs.Tables.{table};
-ghost use Rattle.phases.specs.Conversations.{WentOn};
-ghost use Rattle.orders.specs.Queues.{Served};
-ghost use Rattle.lines.specs.Lines.{meaning};
+ghost use Rattle.std.specs.Prelude.{◌≡◌, ◌≤◌, ◌+◌, ◌<◌, not, ◌||◌, if◌then◌else◌};
+ghost use Rattle.orders.specs.Management.{next_order};
+ghost use Rattle.lines.specs.Lines.{seen};
 ghost use Rattle.lines.specs.Sending.{Sends};
-ghost use Rattle.control.specs.Cycles.{control_of, master_of, kept_offline, cycle, Cycled};
-ghost use Rattle.control.specs.Turns.{left, Asks, left_at, ServedBetween};
+ghost use Rattle.control.specs.Cycles.{control_of, master_of, held_off, phase_with, kept_offline, cycle, Cycled};
+ghost use Rattle.control.specs.AnyReplies.{most_in};
+ghost use Rattle.control.specs.Turns.{left, Asks, left_at, WentOnLine};
+ghost use Rattle.control.specs.Serving.{ServedIn, ServedBetween};
 
-use super::engine::Cycle;
 use super::control::{ExecutionControl, Phase};
+use super::engine::Cycle;
 use lines::line::Line;
 use orders::pair::Queues;
 use phases::offline::clear;
@@ -23,16 +23,16 @@ pub struct Report {
 }
 
 impl ExecutionControl {
-    /// What keeps the master offline: the request, or no power.
+    /// What keeps it offline: the request, or no power.
     fn is_held_off(&self, powered: bool) -> bool
-        ensures { result ≡ (self.now.offline || not powered) }
+        ensures { result ≡ held_off (control_of self.now) powered }
     {
         self.offline || !powered
     }
 
     /// The phase in which a cycle runs.
     pub(crate) fn phase_with(&self, powered: bool) -> Phase
-        ensures { result ≡ (if self.now.offline || not powered then Phase.Offline else self.now.phase) }
+        ensures { result ≡ phase_with powered (control_of self.now) }
     {
         if self.is_held_off(powered) {
             Phase::Offline
@@ -58,7 +58,9 @@ impl ExecutionControl {
     /// Gives the line the request that is next, and hears the reply.
     #[inline(always)]
     fn ask<L: Line>(&mut self, line: &mut L, queues: &mut Queues, cycle: &mut Cycle)
-        ensures went_on { Asks cycle.old.turn → WentOn L.carried (L.power line.old) line.old line.new (table (L.stations line.old)) (table (L.stations line.new)) (left cycle.old.turn self.old queues.old) (left cycle.new.turn self.new queues.new) }
+        ensures went_on { Asks cycle.old.turn
+            → WentOnLine L.carried L.power L.stations line.old line.new
+            (left cycle.old.turn self.old queues.old) (left cycle.new.turn self.new queues.new) }
         ensures counted { Asks cycle.old.turn → cycle.new.requests ≡ cycle.old.requests + 1 }
         ensures nearer { Asks cycle.old.turn → left_at cycle.new.turn < left_at cycle.old.turn }
         ensures phase { cycle.new.phase ≡ cycle.old.phase }
@@ -74,9 +76,13 @@ impl ExecutionControl {
     /// One cycle on a line: it runs in the offline phase where that is requested or power is down, else in the phase that is next.
     #[inline(always)]
     pub fn cycle<L: Line>(&mut self, line: &mut L, queues: &mut Queues) -> Report
-        ensures cycled { Cycled (master_of self.old queues.old) (meaning (L.power line.old) (L.stations line.old)) result.phase result.requests (master_of self.new queues.new) (meaning (L.power line.new) (L.stations line.new)) }
-        ensures sends { Sends L.carried line.old (cycle (master_of self.old queues.old) (meaning (L.power line.old) (L.stations line.old))).sent line.new }
-        ensures served { Served queues.old queues.new }
+        ensures cycled { Cycled (master_of self.old queues.old) (seen L.power L.stations line.old)
+            result.phase result.requests
+            (master_of self.new queues.new) (seen L.power L.stations line.new) }
+        ensures sends { Sends L.carried line.old
+            (cycle (master_of self.old queues.old) (seen L.power L.stations line.old)).sent line.new }
+        ensures at_most { result.requests ≤ most_in result.phase }
+        ensures served { ServedIn result.phase (next_order queues.old) queues.old queues.new }
     {
         let mut cycle = self.begin(queues, line.is_powered());
         // Data exchange is most of a cycle. Asked in a loop of its own it takes fewer instructions, since the turn is known there.

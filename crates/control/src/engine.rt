@@ -1,19 +1,16 @@
 ghost use Rattle.std.specs.Prelude.{◌≡◌, ◌≤◌, ◌<◌, ◌+◌, ◌-◌, ◌*◌, option_map, true, false, None, Some, ◌&&◌, not, ◌||◌, if◌then◌else◌};
 ghost use Rattle.telegrams.specs.Requests.{sent, heard};
-ghost use Rattle.phases.specs.Activation.{admissible};
 ghost use Rattle.phases.specs.Conversations.{question, when_heard};
-ghost use Rattle.orders.specs.Management.{next_order};
-ghost use Rattle.orders.specs.Queues.{Served};
 ghost use Rattle.records.specs.Rows.{row_at};
 ghost use Rattle.records.specs.Records.{rows};
-ghost use Rattle.search.specs.Steps.{step_after};
-ghost use Rattle.control.specs.Cycles.{Master, control_of, with_step, master_of};
-ghost use Rattle.control.specs.Cycling.{cycle_conversation, searching};
+ghost use Rattle.control.specs.Cycles.{Master, control_of, master_of, phase_with};
+ghost use Rattle.control.specs.Cycling.{cycle_conversation, begun, searching};
 ghost use Rattle.control.specs.AnyReplies.{most_in, AsksOnAnyWire};
-ghost use Rattle.control.specs.Turns.{rest_of, left, Asks, AsksNothing, heard_at, left_at, manage_rest, exchange_rest, detect_rest, activate_rest, before_answer, ServedBetween};
+ghost use Rattle.control.specs.Turns.{rest_of, left, Asks, AsksNothing, NotOver, heard_at, left_at, manage_rest, exchange_rest, detect_rest, activate_rest, admitted, activated, step_taken};
+ghost use Rattle.control.specs.Serving.{before_answer, ServedUpTo, ServedBetween};
 
-use super::cycle::Report;
 use super::control::{ExecutionControl, Phase};
+use super::cycle::Report;
 use super::turn::Turn;
 use orders::management::hear_order;
 use orders::order::{Answer, Unanswered};
@@ -29,8 +26,9 @@ use values::address::Address;
 use values::module_address::ModuleAddress;
 use values::nibble::Nibble;
 
-/// A cycle under way. `ExecutionControl::begin` gives it, `next` the request that is to be sent, `ExecutionControl::hear` takes the reply; where nothing is next, the
-/// cycle is over and `report` tells what it was. It belongs to the master and the queues that it was begun with, and is void once the master begins another.
+/// A cycle under way. `ExecutionControl::begin` gives it, `next` the request that is to be sent, `ExecutionControl::hear` takes the reply; where nothing
+/// is next, the cycle is over and `report` tells what it was. It belongs to the execution control and the queues that it was begun with, and is void once
+/// another is begun.
 #[derive(Drop)]
 pub struct Cycle {
     pub(crate) phase: Phase,
@@ -85,20 +83,13 @@ impl Cycle {
 }
 
 impl ExecutionControl {
+    ghost use Rattle.control.specs.Driving.{Begins, Hears};
+
     /// Begins a cycle, with power up or not. What asks nothing is done at once. The nibble that a request carries is settled when the reply before
     /// it is heard, or as the cycle begins.
     #[inline(always)]
     pub fn begin(&mut self, queues: &mut Queues, powered: bool) -> Cycle
-        ensures phase { result.phase ≡ (if self.old.offline || not powered then Phase.Offline else self.old.phase) }
-        ensures none { result.requests ≡ 0 }
-        ensures rest { left result.turn self.new queues.new ≡ cycle_conversation result.phase powered (master_of self.old queues.old) }
-        ensures any_wire { AsksOnAnyWire result.phase (rows self.old.table.rows) (left result.turn self.new queues.new) }
-        ensures waits { Asks result.turn → control_of self.new ≡ control_of self.old }
-        ensures few { left_at result.turn ≤ most_in result.phase }
-        ensures served { Served queues.old queues.new }
-        ensures early { before_answer result.turn ≡ true → queues.new ≡ queues.old }
-        ensures idle { next_order queues.old ≡ None → queues.new ≡ queues.old }
-        ensures kept { (result.phase ≡ Phase.Normal → ⊥) → queues.new ≡ queues.old }
+        ensures { Begins powered self.old queues.old result self.new queues.new }
     {
         let phase = self.phase_with(powered);
         let turn = self.first_turn(queues, phase, powered);
@@ -111,15 +102,14 @@ impl ExecutionControl {
 
     /// The first turn of a cycle in this phase.
     #[inline(always)]
+    #[tactic(auto, unfolding(crate::specs::Cycling::cycle_conversation))]
     fn first_turn(&mut self, queues: &mut Queues, phase: Phase, powered: bool) -> Turn
-        ensures rest { left result self.new queues.new ≡ cycle_conversation phase powered (master_of self.old queues.old) }
+        ensures rest { left result self.new queues.new
+            ≡ cycle_conversation phase powered (master_of self.old queues.old) }
         ensures few { left_at result ≤ 64 }
         ensures most { left_at result ≤ most_in phase }
-        ensures served { Served queues.old queues.new }
-        ensures early { before_answer result ≡ true → queues.new ≡ queues.old }
-        ensures waits { (result ≡ Turn.Over → ⊥) → control_of self.new ≡ control_of self.old }
-        ensures idle { next_order queues.old ≡ None → queues.new ≡ queues.old }
-        ensures kept { (phase ≡ Phase.Normal → ⊥) → queues.new ≡ queues.old }
+        ensures served { ServedUpTo phase result queues.old queues.new }
+        ensures waits { NotOver result → control_of self.new ≡ control_of self.old }
     {
         match phase {
             Phase::Offline => {
@@ -135,15 +125,7 @@ impl ExecutionControl {
     /// Takes the reply to the request that was next. Where none was, nothing changes.
     #[inline(always)]
     pub fn hear(&mut self, queues: &mut Queues, cycle: &mut Cycle, reply: Reply)
-        ensures goes_on { left cycle.new.turn self.new queues.new ≡ when_heard (heard reply) (left cycle.old.turn self.old queues.old) }
-        ensures waits { Asks cycle.new.turn → control_of self.new ≡ heard_at cycle.old.turn (heard reply) (control_of self.old) }
-        ensures nearer { Asks cycle.old.turn → left_at cycle.new.turn < left_at cycle.old.turn }
-        ensures counted { Asks cycle.old.turn → cycle.new.requests ≡ cycle.old.requests + 1 }
-        ensures same_master { AsksNothing cycle.old.turn → self.new ≡ self.old }
-        ensures same_queues { AsksNothing cycle.old.turn → queues.new ≡ queues.old }
-        ensures same_cycle { AsksNothing cycle.old.turn → cycle.new ≡ cycle.old }
-        ensures phase { cycle.new.phase ≡ cycle.old.phase }
-        ensures served { ServedBetween cycle.old.turn cycle.new.turn queues.old queues.new }
+        ensures { Hears (heard reply) self.old queues.old cycle.old self.new queues.new cycle.new }
     {
         match cycle.turn {
             Turn::Over => {}
@@ -161,10 +143,12 @@ impl ExecutionControl {
     /// The turn behind this one, after a reply.
     #[inline(always)]
     fn turn_after(&mut self, queues: &mut Queues, turn: Turn, reply: Reply) -> Turn
-        ensures rest { left result self.new queues.new ≡ when_heard (heard reply) (left turn self.old queues.old) }
-        ensures nearer { (turn ≡ Turn.Over → ⊥) → left_at result < left_at turn }
+        ensures rest { left result self.new queues.new
+            ≡ when_heard (heard reply) (left turn self.old queues.old) }
+        ensures nearer { NotOver turn → left_at result < left_at turn }
         ensures served { ServedBetween turn result queues.old queues.new }
-        ensures waits { (result ≡ Turn.Over → ⊥) → control_of self.new ≡ heard_at turn (heard reply) (control_of self.old) }
+        ensures waits { NotOver result
+            → control_of self.new ≡ heard_at turn (heard reply) (control_of self.old) }
     {
         let rows = &mut self.table.rows;
         match turn {
@@ -210,12 +194,11 @@ impl ExecutionControl {
     /// Data exchange behind an address, or else what follows it.
     #[inline(always)]
     fn exchange_behind(&mut self, queues: &mut Queues, at: Address) -> Turn
-        ensures rest { left result self.new queues.new ≡ exchange_rest (at.value + 1) (master_of self.old queues.old) }
+        ensures rest { left result self.new queues.new
+            ≡ exchange_rest (at.value + 1) (master_of self.old queues.old) }
         ensures few { left_at result ≤ 33 - at.value }
-        ensures served { Served queues.old queues.new }
-        ensures early { before_answer result ≡ true → queues.new ≡ queues.old }
-        ensures waits { (result ≡ Turn.Over → ⊥) → control_of self.new ≡ control_of self.old }
-        ensures idle { next_order queues.old ≡ None → queues.new ≡ queues.old }
+        ensures served { ServedUpTo Phase.Normal result queues.old queues.new }
+        ensures waits { NotOver result → control_of self.new ≡ control_of self.old }
     {
         if let Some(to) = self.table.rows.first_active_behind(at) {
             return Turn::Exchange(to, self.output_data(to));
@@ -226,12 +209,11 @@ impl ExecutionControl {
     /// Management, or else what follows it. An order for an address that is not active ends at once.
     #[inline(always)]
     fn manage_next(&mut self, queues: &mut Queues) -> Turn
-        ensures rest { left result self.new queues.new ≡ manage_rest (master_of self.old queues.old) }
+        ensures rest { left result self.new queues.new
+            ≡ manage_rest (master_of self.old queues.old) }
         ensures few { left_at result ≤ 2 }
-        ensures served { Served queues.old queues.new }
-        ensures early { before_answer result ≡ true → queues.new ≡ queues.old }
-        ensures waits { (result ≡ Turn.Over → ⊥) → control_of self.new ≡ control_of self.old }
-        ensures idle { next_order queues.old ≡ None → queues.new ≡ queues.old }
+        ensures served { ServedUpTo Phase.Normal result queues.old queues.new }
+        ensures waits { NotOver result → control_of self.new ≡ control_of self.old }
     {
         let Some(order) = queues.next() else {
             return self.search_next();
@@ -251,7 +233,7 @@ impl ExecutionControl {
         ensures rest { (q : Queues) → left result self.new q ≡ searching (master_of self.old q) }
         ensures few { left_at result ≤ 1 }
         ensures late { before_answer result ≡ false }
-        ensures waits { (result ≡ Turn.Over → ⊥) → control_of self.new ≡ control_of self.old }
+        ensures waits { NotOver result → control_of self.new ≡ control_of self.old }
     {
         match self.step {
             Step::Seek(from) => Turn::Seek(pick(&self.table.rows, from)),
@@ -267,11 +249,12 @@ impl ExecutionControl {
     }
 
     /// The step of the search behind one that was taken at an address.
-    // Out of line: inlined into the loops over a cycle it would have all of the master kept in registers.
+    // Out of line: inlined into the loops over a cycle it would have all of the execution control kept in registers.
     #[inline(never)]
     fn take_step(&mut self, at: Address, reply: Reply) -> Turn
         ensures turn { result ≡ Turn.Over }
-        ensures step { control_of self.new ≡ with_step (step_after (control_of self.old).step at.value (heard reply) (admissible self.old.table.mode at.value (row_at at.value (rows self.old.table.rows)))) (control_of self.old) }
+        ensures step { control_of self.new
+            ≡ step_taken at.value (heard reply) (control_of self.old) }
     {
         let admissible = is_admissible(self.table.mode(), &self.table.rows, at);
         self.step = self.step.after(at, reply, admissible);
@@ -280,10 +263,11 @@ impl ExecutionControl {
 
     /// Detection behind an address, or the end of the phase.
     fn detect_behind(&mut self, at: Address) -> Turn
-        ensures rest { (q : Queues) → left result self.new q ≡ detect_rest (at.value + 1) (master_of self.old q) }
+        ensures rest { (q : Queues) → left result self.new q
+            ≡ detect_rest (at.value + 1) (master_of self.old q) }
         ensures few { left_at result ≤ 2 * (31 - at.value) }
         ensures late { before_answer result ≡ false }
-        ensures waits { (result ≡ Turn.Over → ⊥) → control_of self.new ≡ control_of self.old }
+        ensures waits { NotOver result → control_of self.new ≡ control_of self.old }
     {
         if at.get() < 31 {
             return Turn::DetectIo(Address::low(u32::from(at) + 1));
@@ -295,10 +279,11 @@ impl ExecutionControl {
     /// Activation from an address on, or the end of the phase.
     fn activate_from(&mut self, from: u32) -> Turn
         requires { from ≤ 32 }
-        ensures rest { (q : Queues) → left result self.new q ≡ activate_rest from (master_of self.old q) }
+        ensures rest { (q : Queues) → left result self.new q
+            ≡ activate_rest from (master_of self.old q) }
         ensures few { left_at result ≤ 32 - from }
         ensures late { before_answer result ≡ false }
-        ensures waits { (result ≡ Turn.Over → ⊥) → control_of self.new ≡ control_of self.old }
+        ensures waits { NotOver result → control_of self.new ≡ control_of self.old }
         ensures most { left_at result ≤ 31 }
     {
         for a in from..32 {
@@ -312,7 +297,7 @@ impl ExecutionControl {
 
     /// The address, where activation enters it.
     fn activated(&self, at: Address) -> Option<ModuleAddress>
-        ensures { option_map (λ a. a.value) result ≡ (if (row_at at.value (rows self.now.table.rows)).detected && admissible self.now.table.mode at.value (row_at at.value (rows self.now.table.rows)) then Some at.value else None) }
+        ensures { option_map (λ a. a.value) result ≡ activated at.value (control_of self.now) }
     {
         if !self.table.rows.is_detected(at) {
             return None;
@@ -322,7 +307,7 @@ impl ExecutionControl {
 
     /// The address, where it is admissible.
     fn admitted(&self, at: Address) -> Option<ModuleAddress>
-        ensures { option_map (λ a. a.value) result ≡ (if admissible self.now.table.mode at.value (row_at at.value (rows self.now.table.rows)) then Some at.value else None) }
+        ensures { option_map (λ a. a.value) result ≡ admitted at.value (control_of self.now) }
     {
         if !is_admissible(self.table.mode(), &self.table.rows, at) {
             return None;

@@ -1,7 +1,7 @@
 //! The execution control of one AS-i master: its state, the calls of the controller, and the cycle, request by request or whole on a line.
 #![tactic(auto)]
 
+pub mod control;
 pub mod cycle;
 pub mod engine;
-pub mod control;
-pub mod turn;
+mod turn;

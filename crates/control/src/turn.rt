@@ -5,7 +5,7 @@ use values::nibble::Nibble;
 
 /// Where a cycle stands: for which request a reply is due. A nibble beside an address is what is sent, or else the I/O code that came.
 #[derive(Clone, Copy)]
-pub enum Turn {
+pub(crate) enum Turn {
     /// Nothing more is asked.
     Over,
     DetectIo(Address),

@@ -1,6 +1,6 @@
 -- The two queues between controller and master: what each call does with the orders that wait, the answers that are uncollected, and the
 -- slices under them. An order is let in only where its answer will have room too: so an order that is carried out never loses its answer.
--- A reader compares `room_outcome` with docs/RECORD.md; the rest is told by the queue's own list.
+-- A reader compares `room_outcome` with docs/QUEUES.md; the rest is told by the queue's own list.
 use Rattle.std.specs.Prelude.{ℕ, ◌+◌, cond, ◌&&◌, List, ◌∷◌, [], ◌++◌, map, nat_lt}
 use Rattle.values.specs.Refusals.{Outcome, gives, refuses, refuses_for}
 use Rattle.telegrams.specs.Requests.{Sent}

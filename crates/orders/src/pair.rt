@@ -1,6 +1,6 @@
 ghost use Rattle.std.specs.Prelude.{◌≡◌, [], map, length};
 ghost use Rattle.values.specs.Refusals.{outcome};
-ghost use Rattle.queues.specs.Fifo.{held, room, put_after, take_outcome, take_after, UnchangedIfRefused, OnlyTaken, OnlyPut};
+ghost use Rattle.queues.specs.Fifo.{held, room, put_after, take_outcome, take_after, UnchangedIfRefused, slots_after, OnlyTaken, OnlyPut};
 ghost use Rattle.orders.specs.Orders.{ordered};
 ghost use Rattle.orders.specs.Management.{next_order};
 ghost use Rattle.orders.specs.Queues.{room_outcome, orders_after, Served};
@@ -12,8 +12,8 @@ use values::refusal::Refusal;
 /// The orders that wait and the answers that are uncollected, each in a queue over a slice of the controller.
 #[derive(Drop)]
 pub struct Queues<'a> {
-    pub orders: Queue<'a, Order>,
-    pub answers: Queue<'a, Answer>,
+    orders: Queue<'a, Order>,
+    answers: Queue<'a, Answer>,
 }
 
 impl<'a> Queues<'a> {
@@ -86,6 +86,7 @@ impl<'a> Queues<'a> {
     pub fn finish(&mut self, answer: Answer)
         ensures orders { held self.new.orders ≡ take_after (held self.old.orders) }
         ensures answers { held self.new.answers ≡ put_after (room self.old.answers) (held self.old.answers) answer }
+        ensures slots { self.new.answers.slots.now ≡ slots_after self.old.answers answer }
         ensures served { Served self.old self.new }
     {
         // Neither is refused where `next` found the order: it waits, and its answer has room.

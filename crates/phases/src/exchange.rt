@@ -14,7 +14,7 @@ use values::nibble::Nibble;
 const KEPT_MISSES: u8 = 2;
 
 /// Takes an address out of LDS and LAS, and sets what was detected there as in a new record.
-pub fn forget_at(target: &mut Rows, address: Address)
+pub(crate) fn forget_at(target: &mut Rows, address: Address)
     ensures { rows target.new ≡ slice_set (rows target.old) address.value (dropped (row_at address.value (rows target.old))) }
 {
     let entry = target.entry(address);

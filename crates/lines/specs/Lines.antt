@@ -13,6 +13,10 @@ pub record Meaning : Type 0 where
 abbrev pub meaning : Bool → (ℕ → Place) → Meaning
 meaning power stations = record { power = power; places = table stations }
 
+-- what is seen of a line of any kind: its power, and its stations
+abbrev pub seen : {L : Type 0} → (L → Bool) → (L → ℕ → Place) → L → Meaning
+seen power stations l = meaning (power l) (stations l)
+
 abbrev pub at : List Place → ℕ → Place
 at ps a = slice_index_or ps a vacant
 

@@ -2,8 +2,8 @@ ghost use Rattle.std.specs.Prelude.{◌≡◌, true, Ok, Err};
 ghost use Rattle.telegrams.specs.Requests.{sent, heard};
 ghost use Rattle.stations.specs.Images.{good_image, powered_in, place_at};
 ghost use Rattle.values.specs.Tables.{table};
-ghost use Rattle.lines.specs.Lines.{meaning, meaning_after, line_after, line_reply};
-ghost use Rattle.racks.specs.Racks.{Opened, Carried, Received};
+ghost use Rattle.lines.specs.Lines.{line_after, line_reply};
+ghost use Rattle.racks.specs.Racks.{Opened, Carried, CarriedInPlace, Received};
 
 use super::rack::Rack;
 use lines::line::Line;
@@ -17,12 +17,13 @@ use values::refusal::Refusal;
 /// A rack that holds nothing but the caller's words, and takes each request as its telegram.
 #[derive(Drop)]
 pub struct ImageRack<'a> {
-    words: &'a mut [u32],
+    pub words: &'a mut [u32],
     ghost good: { good_image words.now ≡ true },
 }
 
 impl<'a> ImageRack<'a> {
-    /// A rack that means what the words say.
+    /// A rack that means what the words say. A caller who gets the words back tests them first and then writes `ImageRack { words }`: of a slice that
+    /// a `Result` may hold, a proof knows nothing more.
     pub fn open(words: &'a mut [u32]) -> Result<ImageRack<'a>, Refusal>
         ensures opened { Opened (λ i. powered_in i.words.now) (λ i. place_at i.words.now) words.old result }
         ensures holds { elim result [ Ok i ↦ i.words.now ≡ words.old | Err _ ↦ Unit {0} ] }
@@ -30,15 +31,6 @@ impl<'a> ImageRack<'a> {
     {
         test_image(words)?;
         Ok(ImageRack { words })
-    }
-
-    /// A rack over words that the caller has tested.
-    pub(crate) fn over(words: &'a mut [u32]) -> ImageRack<'a>
-        requires { good_image words.old ≡ true }
-        ensures holds { result.words.now ≡ words.old }
-        ensures lender { result.words.ghost_name ≡ words.entry.ghost_name }
-    {
-        ImageRack { words }
     }
 
     /// A telegram arrives: the addressed station hears the request in it. A word that is no request is met with silence.
@@ -74,7 +66,7 @@ impl Line for ImageRack<'_> {
     ghost stations = { λ i. place_at i.words.now };
 
     // A rack keeps no record of requests: that it carried one is what the request made of it.
-    ghost carried = { λ i q j. meaning (powered_in j.words.now) (place_at j.words.now) ≡ meaning_after q (meaning (powered_in i.words.now) (place_at i.words.now)) };
+    ghost carried = { λ i q j. CarriedInPlace i.words q j.words };
 
     fn is_powered(&self) -> bool {
         self.words[STATIONS] == POWER_UP
@@ -84,8 +76,8 @@ impl Line for ImageRack<'_> {
         ensures power { powered_in self.new.words.now ≡ powered_in self.old.words.now }
         ensures after { table (place_at self.new.words.now) ≡ line_after (powered_in self.old.words.now) (sent request) (table (place_at self.old.words.now)) }
         ensures reply { heard result ≡ line_reply (powered_in self.old.words.now) (sent request) (table (place_at self.old.words.now)) }
-        ensures carried { Carried (sent request) self.old.words.now self.new.words.now (heard result) }
-        ensures lender { self.new.words.ghost_name ≡ self.old.words.ghost_name }
+        ensures words { Carried (sent request) self.old.words.now self.new.words.now (heard result) }
+        ensures carried { CarriedInPlace self.old.words (sent request) self.new.words }
     {
         self.receive(encode_request(request))
     }

@@ -1,4 +1,4 @@
-use Rattle.std.proofs.Common.{◌≡◌, ℕ, true, List, subst, rules}
+use Rattle.std.proofs.Common.{◌≡◌, true, rules}
 use Rattle.telegrams.specs.Requests.{sent, heard}
 use Rattle.telegrams.proofs.Targets.{target_below}
 use Rattle.std.proofs.lemmas.Result.{err_from_is_err_and}
@@ -6,7 +6,6 @@ use Rattle.stations.proofs.Tests.{image_passed, image_failed}
 use Rattle.stations.specs.Images.{good_image, powered_in, place_at, image_of}
 use Rattle.values.specs.Tables.{table}
 use Rattle.lines.specs.Lines.{line_after}
-use Rattle.racks.specs.Racks.{Carried}
 use Rattle.racks.proofs.Trials.{carried_image}
 use Rattle.racks.proofs.trial.on_image.Goals as goal
 
@@ -21,10 +20,10 @@ returns c =
     let q = sent c.args.request in
     let ws = c.args.words.now in
     let good : good_image ws ≡ true = image_passed ws c.in_ok-test_image.field-0 c.in_ok-test_image.ensures in
-    let carried = subst (λ (l : List ℕ). Carried q l c.carry.new.self.words.now (heard c.carry.result)) c.over-rack.ensures.holds c.carry.ensures.carried in
+    let carried = c.carry.ensures.words in
     let image : c.carry.new.self.words.now ≡ image_of (powered_in ws) (line_after (powered_in ws) q (table (place_at ws))) =
     carried_image q ws c.carry.new.self.words.now (heard c.carry.result) good (target_below c.args.request) carried in
     (good, search rules, carried.replied)
 
-pub over-rack-requires : goal.over-rack-requires
-over-rack-requires c = image_passed c.args.words.now c.in_ok-test_image.field-0 c.in_ok-test_image.ensures
+pub invariant_of-rack : goal.invariant_of-rack
+invariant_of-rack c = record { good = image_passed c.args.words.now c.in_ok-test_image.field-0 c.in_ok-test_image.ensures }

@@ -1,0 +1,6 @@
+use Rattle.std.proofs.Common.{rules}
+use Rattle.promise.proofs.Made.{made}
+use Rattle.master.proofs.calls.MasterWith+Queues.set_offline.Goals as goal
+
+pub returns-clause-called : goal.returns-clause-called
+returns-clause-called c = made _ _ _ _ (search rules) (search rules)

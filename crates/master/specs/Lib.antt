@@ -1,0 +1,3 @@
+pub mod Masters
+pub mod Driving
+pub mod Lending

@@ -1,8 +1,7 @@
 use crate::script::*;
 use lines::line::Line;
 use lines::repeater::Repeater;
-use control::control::ExecutionControl;
-use orders::pair::Queues;
+use master::master::Master;
 use racks::bench::BenchRack;
 use racks::image_rack::ImageRack;
 use std::process::Abort;
@@ -10,15 +9,14 @@ use std::test::*;
 
 /// The first four cycles on a line with one module, at address 3.
 fn check_first_cycles<L: Line>(rt: &impl Abort, line: &mut L) -> Result<(), Fail> {
-    let mut master = ExecutionControl::new();
-    let mut queues = Queues::over(&mut [], &mut []);
+    let mut master = Master::new(&mut [], &mut []);
     for (letter, requests, lds, las) in [
         ('O', 0, 0, 0),
         ('D', 33, 8, 0),
         ('A', 1, 8, 8),
         ('N', 2, 8, 8),
     ] {
-        let report = master.cycle(line, &mut queues);
+        let report = master.cycle(line);
         assert_eq!(rt; reported(report), (letter, requests));
         let listing = master.read_lists();
         assert_eq!(rt; (listing.lds, listing.las), (lds, las));

@@ -1,8 +1,11 @@
 use crate::script::{MODULE, image, number};
+use master::master::Master;
 use racks::bench::BenchRack;
 use racks::image_rack::ImageRack;
 use racks::rack::Rack;
 use racks::trial::{on_bench, on_image, under_repeater};
+use runs::call::{Call, Given};
+use runs::on_image::run_on_image;
 use stations::bytes::image_from_bytes;
 use stations::image::{IMAGE_WORDS, POWER_UP, test_image};
 use std::fmt::Debug;
@@ -21,8 +24,9 @@ fn check_image<W: Debug + Drop>(rt: &impl Abort, what: W, words: &mut [u32], exp
         number(on_bench(words, request)),
         number(on_image(words, request)),
         number(under_repeater(words, request)),
+        number(run_on_image(words, &[], &mut Master::new(&mut [], &mut []), &mut [])),
     ];
-    assert_eq!(rt; numbers, [expected; 6], "{what:?}");
+    assert_eq!(rt; numbers, [expected; 7], "{what:?}");
 }
 
 #[test]
@@ -109,4 +113,23 @@ fn writing_out(rt: HostRuntime) -> Result<(), Fail> {
         }
         _ => Err(Fail::new("good image refused")),
     }
+}
+
+/// Words that are refused stay as they were, and the log too. Others are given back as the calls leave them: of three cycles the
+/// first is of the offline phase, the second detects the module, and the third activates it, which sets its mark.
+#[test]
+fn running_on_words(rt: HostRuntime) {
+    let script = [Call::Cycle; 3];
+    let mut log = [Ok(Given::Nothing); 3];
+    let mut words = image(&[(3, MODULE), (4, 1)]);
+    let before = words;
+    let mut master = Master::new(&mut [], &mut []);
+    let refused = run_on_image(&mut words, &script, &mut master, &mut log);
+    assert_eq!(rt; number(refused), 0x8313);
+    assert_eq!(rt; words, before);
+    assert!(rt; log == [Ok(Given::Nothing); 3]);
+    words[4] = 0;
+    let made = run_on_image(&mut words, &script, &mut master, &mut log);
+    assert!(rt; made == Ok(3));
+    assert_eq!(rt; words, image(&[(3, MODULE + 0x80)]));
 }

@@ -1,4 +1,5 @@
 use crate::script::*;
+use master::master::Master;
 use racks::bench::BenchRack;
 use records::edit::Edit;
 use records::record::Mode;
@@ -79,12 +80,14 @@ fn script_with_plant(rt: HostRuntime) -> Result<(), Fail> {
     let Ok(mut rack) = BenchRack::open(&one_module().words) else {
         return Err(Fail::new("good image refused"));
     };
+    let mut orders = [any_answer().order];
+    let mut answers = [any_answer()];
+    let mut master = Master::new(&mut orders, &mut answers);
     let made = run(
         &mut rack,
         &mut Unplugging { left: 12 },
         &calls(&[Edit::TakeOver, Edit::Unproject(0)]),
-        &mut [any_answer().order],
-        &mut [any_answer()],
+        &mut master,
         &mut log,
     );
     assert_eq!(rt; made, CALLS);

@@ -3,9 +3,9 @@
 ghost use Rattle.std.specs.Prelude.{◌≡◌, ◌+◌, ◌-◌, ◌^◌, min};
 
 use crate::script::*;
+use control::control::Phase;
 use lines::line::Line;
-use control::control::{ExecutionControl, Phase};
-use orders::pair::Queues;
+use master::master::Master;
 use racks::bench::BenchRack;
 use stations::image::{IMAGE_WORDS, POWER_UP};
 use std::process::Abort;
@@ -47,13 +47,13 @@ impl<L: Line> Line for Recorder<L> {
 }
 
 /// The words of the Data_Exchanges that are due, lowest address first; how many they are.
-fn due(master: &ExecutionControl, words: &mut [u32; KEPT]) -> usize {
+fn due(master: &Master<'_>, words: &mut [u32; KEPT]) -> usize {
     let mut count = 0;
     for a in 0..31u32 {
         let to = ModuleAddress::nth(a);
         let at = Address::from(to);
-        if master.table.rows.is_active(at) {
-            let odi = master.table.rows.entry(at).odi;
+        if master.record().rows.is_active(at) {
+            let odi = master.record().rows.entry(at).odi;
             if let Some(word) = words.get_mut(count) {
                 *word = encode_request(Request::DataExchange(to, odi));
             }
@@ -64,16 +64,11 @@ fn due(master: &ExecutionControl, words: &mut [u32; KEPT]) -> usize {
 }
 
 /// Runs one cycle: the line is given as many requests as the cycle reports, and in a normal one first the exchanges that are due, in order.
-fn check_cycle<L: Line>(
-    rt: &impl Abort,
-    master: &mut ExecutionControl,
-    line: &mut Recorder<L>,
-    queues: &mut Queues,
-) -> Phase {
+fn check_cycle<L: Line>(rt: &impl Abort, master: &mut Master<'_>, line: &mut Recorder<L>) -> Phase {
     let mut expected = [0; KEPT];
     let exchanges = due(master, &mut expected).min(KEPT);
     line.count = 0;
-    let report = master.cycle(line, queues);
+    let report = master.cycle(line);
     assert_eq!(rt; line.count, report.requests as usize);
     if report.phase == Phase::Normal {
         assert!(rt; line.count >= exchanges && line.count <= exchanges + 2);
@@ -101,16 +96,15 @@ fn requests_sent(rt: HostRuntime) -> Result<(), Fail> {
     };
     let mut orders = [any_answer().order; 2];
     let mut answers = [any_answer(); 2];
-    let mut queues = Queues::over(&mut orders, &mut answers);
-    let mut master = ExecutionControl::new();
+    let mut master = Master::new(&mut orders, &mut answers);
     let mut normal = 0u32;
     for k in 0..200u32 {
-        let _ = master.place_reset(&mut queues, k % 31 + 1);
-        let _ = master.table.write_outputs(k % 31 + 1, k % 16);
-        if check_cycle(&rt, &mut master, &mut line, &mut queues) == Phase::Normal {
+        let _ = master.place_reset(k % 31 + 1);
+        let _ = master.write_outputs(k % 31 + 1, k % 16);
+        if check_cycle(&rt, &mut master, &mut line) == Phase::Normal {
             normal = normal.saturating_add(1);
         }
-        let _ = queues.collect();
+        let _ = master.collect();
     }
     assert_eq!(rt; normal, 197);
     Ok(())

@@ -1,12 +1,11 @@
 //! Scripts of calls on a new master on an image rack, each call with what it is to come to.
+use control::control::Listing;
 use control::cycle::Report;
-use control::control::{Listing, ExecutionControl};
+use master::master::Master;
 use orders::order::{Answer, Order, Unanswered};
-use orders::pair::Queues;
 use racks::image_rack::ImageRack;
 use records::edit::Edit;
 use records::entry::Entry;
-use records::projection::Projection;
 use records::record::Mode;
 use records::rows::ADDRESSES;
 use stations::image::{IMAGE_WORDS, STATIONS, power_word};
@@ -193,22 +192,21 @@ fn packed(entry: Entry) -> (u32, u8) {
     (word, entry.misses)
 }
 
-/// A master with its queues, and the words of the rack that it runs on.
+/// A master, and the words of the rack that it runs on.
 #[derive(Drop)]
 struct Session<'a> {
     words: [u32; IMAGE_WORDS],
-    master: ExecutionControl,
-    queues: Queues<'a>,
+    master: Master<'a>,
 }
 
 impl<'a> Session<'a> {
     fn state(&self) -> State {
         State {
             lists: listed(self.master.read_lists()),
-            waiting: self.queues.waiting(),
-            uncollected: self.queues.uncollected(),
+            waiting: self.master.waiting(),
+            uncollected: self.master.uncollected(),
             entries: array::from_fn(|a| packed(
-                self.master.table.rows.entry(Address::low(a as u32)),
+                self.master.record().rows.entry(Address::low(a as u32)),
             )),
             words: self.words,
         }
@@ -216,24 +214,22 @@ impl<'a> Session<'a> {
 
     fn cycle(&mut self) -> Result<(char, u32), Refusal> {
         let mut rack = ImageRack::open(&mut self.words)?;
-        Ok(reported(self.master.cycle(&mut rack, &mut self.queues)))
+        Ok(reported(self.master.cycle(&mut rack)))
     }
 
     /// Makes the call of a row and checks what it came to; the number, 0 where it has none.
     fn call(&mut self, rt: &impl Abort, row: Row, n: u32) -> Result<u16, Fail> {
         match row {
             Row::Parameter(address, value, expected) => {
-                let placed = self
-                    .master
-                    .place_parameter(&mut self.queues, address, value);
+                let placed = self.master.place_parameter(address, value);
                 Ok(same(rt, number(placed), expected, n))
             }
             Row::Reset(address, expected) => {
-                let placed = self.master.place_reset(&mut self.queues, address);
+                let placed = self.master.place_reset(address);
                 Ok(same(rt, number(placed), expected, n))
             }
             Row::Collect(expected) => {
-                let came = ending(self.queues.collect());
+                let came = ending(self.master.collect());
                 assert_eq!(rt; came, expected, "row {n}");
                 match came {
                     Collected::Refused(number) => Ok(number),
@@ -241,23 +237,23 @@ impl<'a> Session<'a> {
                 }
             }
             Row::Outputs(address, outputs, expected) => {
-                let written = self.master.table.write_outputs(address, outputs);
+                let written = self.master.write_outputs(address, outputs);
                 Ok(same(rt, number(written), expected, n))
             }
             Row::Inputs(address, expected) => {
-                let read = self.master.table.read_inputs(address);
+                let read = self.master.read_inputs(address);
                 Ok(same(rt, nibble_or_number(read), expected, n))
             }
             Row::Mode(mode, expected) => {
-                let set = self.master.table.set_mode(mode);
+                let set = self.master.set_mode(mode);
                 Ok(same(rt, number(set), expected, n))
             }
             Row::Edit(change, expected) => {
-                let edited = self.master.table.edit(change);
+                let edited = self.master.edit(change);
                 Ok(same(rt, number(edited), expected, n))
             }
             Row::Through(change, expected) => {
-                let edited = Projection::open(&mut self.master.table).edit(change);
+                let edited = self.master.projection().edit(change);
                 Ok(same(rt, number(edited), expected, n))
             }
             Row::Cycle(letter, requests) => match self.cycle() {
@@ -321,8 +317,7 @@ pub(crate) fn follow(rt: &impl Abort, start: Start, rows: &[Row]) -> Result<(), 
     assert!(rt; start.order_room <= ROOM && start.answer_room <= ROOM);
     let mut session = Session {
         words: start.words,
-        master: ExecutionControl::new(),
-        queues: Queues::over(
+        master: Master::new(
             &mut order_slots[0..start.order_room],
             &mut answer_slots[0..start.answer_room],
         ),

@@ -9,8 +9,7 @@ ghost use Rattle.telegrams.specs.Requests.{heard, silence, nibble};
 ghost use Rattle.telegrams.specs.Words.{ReplyOf};
 
 use control::cycle::Report;
-use control::control::ExecutionControl;
-use orders::pair::Queues;
+use master::master::Master;
 use std::io;
 use telegrams::request::{Reply, Request};
 use telegrams::word::{decode_reply, encode_request};
@@ -34,17 +33,12 @@ fn reply_of(word: Option<u32>) -> Reply
 }
 
 /// Runs one cycle: the master says what to send, the wire carries it, and the master hears what came back.
-fn run_cycle(
-    rt: &impl Print,
-    master: &mut ExecutionControl,
-    queues: &mut Queues,
-    wire: &mut Wire,
-) -> io::Result<Report> {
-    let mut cycle = master.begin(queues, POWERED);
+fn run_cycle(rt: &impl Print, master: &mut Master<'_>, wire: &mut Wire) -> io::Result<Report> {
+    let mut cycle = master.begin(POWERED);
     while let Some(request) = cycle.next() {
         let reply = reply_of(wire.carry(encode_request(request)));
         print_exchange(rt, request, reply)?;
-        master.hear(queues, &mut cycle, reply);
+        cycle.hear(reply);
     }
     Ok(cycle.report())
 }
@@ -80,7 +74,12 @@ fn print_exchange(rt: &impl Print, request: Request, reply: Reply) -> io::Result
     rt.println("")
 }
 
-fn print_cycle(rt: &impl Print, number: u32, report: Report, master: &ExecutionControl) -> io::Result<()> {
+fn print_cycle(
+    rt: &impl Print,
+    number: u32,
+    report: Report,
+    master: &Master<'_>,
+) -> io::Result<()> {
     let letter = report.phase.letter();
     let requests = report.requests;
     let lists = master.read_lists();
@@ -90,12 +89,11 @@ fn print_cycle(rt: &impl Print, number: u32, report: Report, master: &ExecutionC
 }
 
 fn main(rt: HostRuntime) -> io::Result<()> {
-    let mut master = ExecutionControl::new();
     // No order is placed, so the queues need no places.
-    let mut queues = Queues::over(&mut [], &mut []);
+    let mut master = Master::new(&mut [], &mut []);
     let mut wire = Wire::new();
     for number in 1..=CYCLES {
-        let report = run_cycle(&rt, &mut master, &mut queues, &mut wire)?;
+        let report = run_cycle(&rt, &mut master, &mut wire)?;
         print_cycle(&rt, number, report, &master)?;
     }
     Ok(())

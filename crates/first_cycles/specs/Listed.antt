@@ -6,7 +6,7 @@ use Rattle.values.specs.Refusals.{Outcome, gives, refuses, refuses_for}
 use Rattle.stations.specs.Images.{image_from, good_image, powered_in, place_at}
 use Rattle.lines.specs.Lines.{meaning}
 use Rattle.control.specs.Cycles.{new_master}
-use Rattle.runs.specs.Outcomes.{Came}
+use Rattle.promise.specs.Outcomes.{Came}
 use Rattle.runs.specs.Runs.{undisturbed}
 use Rattle.runs.specs.declared.call.Call.{Call}
 use Rattle.runs.specs.declared.call.Call.TheVariants.{Cycle, ReadLists}

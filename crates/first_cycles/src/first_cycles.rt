@@ -1,6 +1,6 @@
 ghost use Rattle.std.specs.Prelude.{◌≡◌, map};
 ghost use Rattle.values.specs.Refusals.{outcome};
-ghost use Rattle.lines.specs.Lines.{meaning};
+ghost use Rattle.lines.specs.Lines.{seen};
 ghost use Rattle.lines.specs.Sending.{Sends};
 ghost use Rattle.control.specs.Cycles.{new_master};
 ghost use Rattle.runs.specs.Outcomes.{came};
@@ -8,9 +8,10 @@ ghost use Rattle.runs.specs.Runs.{undisturbed, sent_undisturbed, line_undisturbe
 ghost use Rattle.first_cycles.specs.Listed.{script, listed};
 
 use lines::line::Line;
+use master::master::Master;
 use orders::order::{Answer, Order};
-use racks::image_rack::ImageRack;
 use runs::call::{Call, Given, Outcome};
+use runs::on_image::run_on_image;
 use runs::plant::Idle;
 use runs::run::run;
 use stations::bytes::image_from_bytes;
@@ -32,22 +33,19 @@ const SCRIPT: [Call<'static>; CALLS] = [
 
 /// Four cycles of a new master, each followed by a reading of the lists.
 pub fn on_line<L: Line>(line: &mut L) -> [Outcome; CALLS]
-    ensures came_to { map came result ≡ undisturbed script (meaning (L.power line.old) (L.stations line.old)) (new_master 0 0) }
-    ensures sends { Sends L.carried line.old (sent_undisturbed script (meaning (L.power line.old) (L.stations line.old)) (new_master 0 0)) line.new }
-    ensures left { meaning (L.power line.new) (L.stations line.new) ≡ line_undisturbed script (meaning (L.power line.old) (L.stations line.old)) (new_master 0 0) }
+    ensures came_to { map came result
+        ≡ undisturbed script (seen L.power L.stations line.old) (new_master 0 0) }
+    ensures sends { Sends L.carried line.old
+        (sent_undisturbed script (seen L.power L.stations line.old) (new_master 0 0)) line.new }
+    ensures left { seen L.power L.stations line.new
+        ≡ line_undisturbed script (seen L.power L.stations line.old) (new_master 0 0) }
 {
     let mut log = [Ok(Given::Nothing); CALLS];
     // No order is placed, so the queues need no places.
     let mut orders: [Order; 0] = [];
     let mut answers: [Answer; 0] = [];
-    run(
-        line,
-        &mut Idle,
-        &SCRIPT,
-        &mut orders,
-        &mut answers,
-        &mut log,
-    );
+    let mut master = Master::new(&mut orders, &mut answers);
+    run(line, &mut Idle, &SCRIPT, &mut master, &mut log);
     log
 }
 
@@ -56,6 +54,10 @@ pub fn on_image(bytes: &[u8]) -> Result<[Outcome; CALLS], Refusal>
     ensures { outcome (map came) result ≡ listed bytes.now }
 {
     let mut words = image_from_bytes(bytes)?;
-    let mut rack = ImageRack::open(&mut words)?;
-    Ok(on_line(&mut rack))
+    let mut log = [Ok(Given::Nothing); CALLS];
+    let mut orders: [Order; 0] = [];
+    let mut answers: [Answer; 0] = [];
+    let mut master = Master::new(&mut orders, &mut answers);
+    run_on_image(&mut words, &SCRIPT, &mut master, &mut log)?;
+    Ok(log)
 }

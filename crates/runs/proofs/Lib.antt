@@ -1,4 +1,3 @@
-pub mod Edited
 pub mod Idling
-pub mod Performing
+pub mod Lent
 pub mod Running

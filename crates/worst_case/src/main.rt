@@ -8,8 +8,9 @@ ghost use Rattle.stations.specs.Images.{image_of};
 ghost use Rattle.promise.specs.Longest.{fresh, all_vacant, former_alone, all_new, with_power};
 ghost use Rattle.worst_case.specs.Plugging.{rack_line, Plugs};
 
-use lines::line::Line;
 use control::cycle::Report;
+use lines::line::Line;
+use master::master::Master;
 use promise::figure::waiting_bound;
 use racks::bench::BenchRack;
 use records::edit::Edit;
@@ -180,7 +181,9 @@ fn show_cycles(rt: &impl Print, log: &[Outcome]) -> io::Result<()> {
 fn show_run(rt: &HostRuntime, line: &mut BenchRack, plugging: &mut Plugging) -> io::Result<()> {
     let script = script(rt.alloc())?;
     let mut log = vec![in rt.alloc(); Ok(Given::Nothing); script.len()]?;
-    run(line, plugging, &script, &mut [], &mut [], &mut log);
+    // No order is placed, so the queues need no places.
+    let mut master = Master::new(&mut [], &mut []);
+    run(line, plugging, &script, &mut master, &mut log);
     println!(rt;
         "The module at address {ADDRESS} in the worst case: cycle from plugging on, phase, requests, exchanged or not"
     )?;

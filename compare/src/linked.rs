@@ -21,7 +21,17 @@ mod library {
             pub safe fn asi_encode_reply(value: u32) -> u32;
             pub safe fn asi_decode_reply(word: u32) -> u32;
             pub fn asi_replay(
-                line: u32,
+                repeaters: u32,
+                order_room: u32,
+                answer_room: u32,
+                words: *mut u32,
+                words_length: usize,
+                script: *const u32,
+                script_length: usize,
+                log: *mut u32,
+                log_length: usize,
+            ) -> usize;
+            pub fn asi_replay_image(
                 order_room: u32,
                 answer_room: u32,
                 words: *mut u32,
@@ -51,21 +61,36 @@ mod library {
         exports::asi_decode_reply(word)
     }
 
+    /// The lines 0 to 3 are that many repeaters over a bench rack, any other
+    /// is an image rack, which has a function of its own.
     pub fn replay(setting: Setting, words: &mut [u32], script: &[u32], log: &mut [u32]) -> usize {
         // SAFETY: each pointer and length are those of one slice, which is
         // lent for the call: words and log to be written, script to be read.
         unsafe {
-            exports::asi_replay(
-                setting.line,
-                setting.order_room,
-                setting.answer_room,
-                words.as_mut_ptr(),
-                words.len(),
-                script.as_ptr(),
-                script.len(),
-                log.as_mut_ptr(),
-                log.len(),
-            )
+            if setting.line > 3 {
+                exports::asi_replay_image(
+                    setting.order_room,
+                    setting.answer_room,
+                    words.as_mut_ptr(),
+                    words.len(),
+                    script.as_ptr(),
+                    script.len(),
+                    log.as_mut_ptr(),
+                    log.len(),
+                )
+            } else {
+                exports::asi_replay(
+                    setting.line,
+                    setting.order_room,
+                    setting.answer_room,
+                    words.as_mut_ptr(),
+                    words.len(),
+                    script.as_ptr(),
+                    script.len(),
+                    log.as_mut_ptr(),
+                    log.len(),
+                )
+            }
         }
     }
 

@@ -1,4 +1,4 @@
--- How many requests some cycles send that follow one another on a line that nobody else touches. What one cycle sends is said by the crate `master`;
+-- How many requests some cycles send that follow one another on a line that nobody else touches. What one cycle sends is said by the crate `control`;
 -- here it is only added up, modulo 2^32 as the number is given.
 -- A reader compares `counted` with docs/COMPARE.md.
 use Rattle.std.specs.Prelude.{ℕ, zero, suc, ◌+◌, ◌%◌, cond, List, length}

@@ -1,2 +1,5 @@
 pub mod Words
 pub mod Counting
+pub mod Logging
+pub mod Scripts
+pub mod Replay

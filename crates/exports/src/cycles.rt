@@ -1,8 +1,7 @@
 ghost use Rattle.std.specs.Prelude.{◌≡◌};
 ghost use Rattle.exports.specs.Counting.{counted};
 
-use control::control::ExecutionControl;
-use orders::pair::Queues;
+use master::master::Master;
 use racks::bench::BenchRack;
 
 /// Runs cycles of a new master on a bench rack; how many requests they report, modulo 2^32.
@@ -14,11 +13,11 @@ pub extern "C" fn asi_cycles(words: &[u32], cycles: u32) -> u32
         Ok(bench) => bench,
         Err(refusal) => return u32::from(refusal.number()),
     };
-    let mut master = ExecutionControl::new();
-    let mut queues = Queues::over(&mut [], &mut []);
+    // No order is placed, so the queues need no places.
+    let mut master = Master::new(&mut [], &mut []);
     let mut sent = 0u32;
     for _done in 0..cycles {
-        let report = master.cycle(&mut bench, &mut queues);
+        let report = master.cycle(&mut bench);
         sent = sent.wrapping_add(report.requests);
     }
     sent

@@ -3,6 +3,7 @@
 
 pub mod cycles;
 mod logged;
+mod on_line;
 pub mod replay;
 mod script;
 pub mod words;

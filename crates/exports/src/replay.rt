@@ -1,157 +1,78 @@
-ghost use Rattle.std.specs.Prelude.{◌≡◌, ◌/◌, ◌≤◌, false, length};
+ghost use Rattle.std.specs.Prelude.{◌≡◌, true, min, length, MatchOption};
 ghost use Rattle.stations.specs.Images.{good_image};
+ghost use Rattle.master.specs.Masters.{state_of};
+ghost use Rattle.exports.specs.Replay.{altered, repeaters_of, NoNext, Next, replay, Replayed};
 
-use super::logged::{LOG_WORDS, logged_word, outcome_words};
+use super::logged::{LOG_WORDS, logged};
+use super::on_line::{LineKind, on_line};
 use super::script::{CALL_WORDS, EDITS, Entry};
-use lines::line::Line;
-use lines::repeater::Repeater;
-use control::control::ExecutionControl;
+use master::master::Master;
 use orders::order::{Answer, Order, Unanswered};
-use orders::pair::Queues;
-use racks::bench::BenchRack;
-use racks::image_rack::ImageRack;
-use racks::rack::Rack;
 use records::edit::Edit;
-use runs::call::{Call, Outcome};
-use runs::perform::perform;
 use stations::image::test_image;
-use std::{array, mem};
 use values::module_address::ModuleAddress;
-use values::refusal::Refusal;
 
 /// How many places either queue has at most.
 const ROOM: usize = 8;
 
 fn room(asked: u32) -> usize
-    ensures { result ≤ 8 }
+    ensures { result ≡ min asked 8 }
 {
     (asked as usize).min(ROOM)
 }
 
 /// Alters the line where the image stays good with that.
-fn alter(words: &mut [u32], place: usize, word: u32) {
-    let Some(altered) = words.get_mut(place) else {
+fn alter(words: &mut [u32], entry: &Entry)
+    ensures { words.new ≡ altered entry.now words.old }
+{
+    let place = entry.place as usize;
+    let Some(&former) = words.get(place) else {
         return;
     };
-    let former = mem::replace(altered, word);
+    words[place] = entry.word;
     if test_image(words).is_err() {
         words[place] = former;
     }
 }
 
-/// Makes a call through a repeater over a line, which it gives back.
-fn repeated<L: Line>(
-    below: L,
-    call: Call<'_>,
-    master: &mut ExecutionControl,
-    queues: &mut Queues,
-) -> (L, Outcome) {
-    let mut line = Repeater::over(below);
-    let outcome = perform(call, &mut line, master, queues);
-    (line.into_below(), outcome)
-}
-
-/// Makes a call on a bench rack under so many repeaters.
-fn on_bench(
-    repeaters: u32,
-    mut bench: BenchRack,
-    call: Call<'_>,
-    master: &mut ExecutionControl,
-    queues: &mut Queues,
-) -> (BenchRack, Outcome) {
-    match repeaters {
-        0 => {
-            let outcome = perform(call, &mut bench, master, queues);
-            (bench, outcome)
-        }
-        1 => repeated(bench, call, master, queues),
-        2 => {
-            let (line, outcome) = repeated(Repeater::over(bench), call, master, queues);
-            (line.into_below(), outcome)
-        }
-        _ => {
-            let line = Repeater::over(Repeater::over(bench));
-            let (line, outcome) = repeated(line, call, master, queues);
-            (line.into_below().into_below(), outcome)
-        }
-    }
-}
-
-/// Makes a call on a line that is opened from the words, which afterwards say what it means.
-fn on_line(
-    line: u32,
-    call: Call<'_>,
-    words: &mut [u32],
-    master: &mut ExecutionControl,
-    queues: &mut Queues,
-) -> Result<Outcome, Refusal> {
-    if line > 3 {
-        let mut rack = ImageRack::open(words)?;
-        return Ok(perform(call, &mut rack, master, queues));
-    }
-    let (bench, outcome) = on_bench(line, BenchRack::open(words)?, call, master, queues);
-    bench.write_out(words)?;
-    Ok(outcome)
-}
-
-/// Reads the edits with which a script goes on; how many they are, and what is behind them.
-fn read_edits<'a>(script: &'a [u32], edits: &mut [Edit; EDITS]) -> (usize, &'a [u32])
-    ensures { result.0 ≤ 4 }
-{
-    let mut rest = script;
-    for (count, slot) in edits.iter_mut().enumerate() {
-        let Some((words, behind)) = rest.split_first_chunk::<CALL_WORDS>() else {
-            return (count, rest);
-        };
-        let Some(edit) = Entry::from_words(words).edit() else {
-            return (count, rest);
-        };
-        *slot = edit;
-        rest = behind;
-    }
-    (EDITS, rest)
-}
-
 /// Makes the next call of a script and logs it. What is behind it in the script, or nothing where no call was made.
 fn replay_next<'a>(
-    line: u32,
+    kind: LineKind,
     script: &'a [u32],
     words: &mut [u32],
-    master: &mut ExecutionControl,
-    queues: &mut Queues,
-    logged: &mut [u32],
+    master: &mut Master<'_>,
+    place: &mut [u32],
 ) -> Option<&'a [u32]>
-    requires { length logged.old ≡ 111 }
+    requires image { good_image words.old ≡ true }
+    requires place { length place.old ≡ 111 }
+    ensures { MatchOption result
+        (NoNext script.now words.old place.old words.new place.new)
+        (λ rest. Next (repeaters_of kind) script.now words.old (state_of master.old)
+        place.new rest.now words.new (state_of master.new)) }
 {
-    let (first, mut rest) = script.split_first_chunk::<CALL_WORDS>()?;
+    let (first, behind) = script.split_first_chunk::<CALL_WORDS>()?;
     let entry = Entry::from_words(first);
     let mut edits = [Edit::TakeOver; EDITS];
-    let mut count = 0;
-    if entry.projects() {
-        (count, rest) = read_edits(rest, &mut edits);
-    }
-    alter(words, entry.place as usize, entry.word);
+    let (count, rest) = entry.read_edits(behind, &mut edits);
+    alter(words, &entry);
     let call = entry.call(&edits[..count]);
-    let came = outcome_words(on_line(line, call, words, master, queues).ok()?);
-    let words_logged: [u32; LOG_WORDS] = array::from_fn(|k| logged_word(
-        k, &came, master, queues, words,
-    ));
-    logged.copy_from_slice(&words_logged);
+    let outcome = on_line(kind, call, words, master).ok()?;
+    place.copy_from_slice(&logged(outcome, master, words));
     Some(rest)
 }
 
 /// Replays a script on a new master, and logs each call; how many were made.
-#[unsafe(no_mangle)]
-pub extern "C" fn asi_replay(
-    line: u32,
+fn replay(
+    kind: LineKind,
     order_room: u32,
     answer_room: u32,
     words: &mut [u32],
     script: &[u32],
     log: &mut [u32],
 ) -> usize
-    ensures refused { good_image words.old ≡ false → (result ≡ 0) × (words.new ≡ words.old) × (log.new ≡ log.old) }
-    ensures made { result ≤ length log.old / 111 }
+    ensures { Replayed (replay (repeaters_of kind) order_room answer_room
+        words.old script.now (length log.old))
+        log.old result words.new log.new }
 {
     let order = Order::Reset(ModuleAddress::nth(0));
     let answer = Answer {
@@ -160,21 +81,57 @@ pub extern "C" fn asi_replay(
     };
     let mut order_slots = [order; ROOM];
     let mut answer_slots = [answer; ROOM];
-    let mut queues = Queues::over(
+    let mut master = Master::new(
         &mut order_slots[..room(order_room)],
         &mut answer_slots[..room(answer_room)],
     );
-    let mut master = ExecutionControl::new();
     if test_image(words).is_err() {
         return 0;
     }
     let mut rest = script;
-    let entries = log.len() / LOG_WORDS;
-    for (made, logged) in log.chunks_exact_mut(LOG_WORDS).enumerate() {
-        let Some(behind) = replay_next(line, rest, words, &mut master, &mut queues, logged) else {
+    let places = log.len() / LOG_WORDS;
+    for made in 0..places {
+        let start = made * LOG_WORDS;
+        let place = &mut log[start..start + LOG_WORDS];
+        let next = replay_next(kind, rest, words, &mut master, place);
+        let Some(behind) = next else {
             return made;
         };
         rest = behind;
     }
-    entries
+    places
+}
+
+/// Replays a script on a bench rack under repeaters.
+#[unsafe(no_mangle)]
+pub extern "C" fn asi_replay(
+    repeaters: u32,
+    order_room: u32,
+    answer_room: u32,
+    words: &mut [u32],
+    script: &[u32],
+    log: &mut [u32],
+) -> usize
+    ensures { Replayed (replay (min repeaters 3) order_room answer_room
+        words.old script.now (length log.old))
+        log.old result words.new log.new }
+{
+    let kind = LineKind::Bench { repeaters };
+    replay(kind, order_room, answer_room, words, script, log)
+}
+
+/// Replays a script on an image rack over the words.
+#[unsafe(no_mangle)]
+pub extern "C" fn asi_replay_image(
+    order_room: u32,
+    answer_room: u32,
+    words: &mut [u32],
+    script: &[u32],
+    log: &mut [u32],
+) -> usize
+    ensures { Replayed (replay 0 order_room answer_room
+        words.old script.now (length log.old))
+        log.old result words.new log.new }
+{
+    replay(LineKind::Image, order_room, answer_room, words, script, log)
 }

@@ -1,3 +1,9 @@
+ghost use Rattle.std.specs.Prelude.{◌≡◌, ◌≤◌, take, drop, map, option_map, IfSome};
+ghost use Rattle.records.specs.Edits.{change_of};
+ghost use Rattle.lines.specs.Lines.{Meaning};
+ghost use Rattle.runs.specs.Outcomes.{turn_of};
+ghost use Rattle.exports.specs.Scripts.{entry_in, edit_by, next_edit, edits_in, edits_of, turn_by};
+
 use records::edit::Edit;
 use records::record::Mode;
 use runs::call::Call;
@@ -22,7 +28,9 @@ pub(crate) struct Entry {
 }
 
 impl Entry {
-    pub(crate) fn from_words(words: &[u32; CALL_WORDS]) -> Entry {
+    pub(crate) fn from_words(words: &[u32; CALL_WORDS]) -> Entry
+        ensures { result ≡ entry_in words.now }
+    {
         let [code, a, b, c, d, place, word, _] = *words;
         Entry {
             code,
@@ -35,7 +43,9 @@ impl Entry {
         }
     }
 
-    pub(crate) fn edit(&self) -> Option<Edit> {
+    fn edit(&self) -> Option<Edit>
+        ensures { option_map change_of result ≡ edit_by self.now }
+    {
         match self.code {
             9 => Some(Edit::Project {
                 address: self.a,
@@ -50,11 +60,10 @@ impl Entry {
     }
 
     /// The call; one that opens a projection makes these edits through it.
-    pub(crate) fn call<'a>(&self, edits: &'a [Edit]) -> Call<'a> {
+    pub(crate) fn call<'a>(&self, edits: &'a [Edit]) -> Call<'a>
+        ensures { (line : Meaning) → turn_of line result ≡ turn_by self.now (map change_of edits.now) line }
+    {
         let address = self.a;
-        if let Some(edit) = self.edit() {
-            return Call::Edit(edit);
-        }
         match self.code {
             0 => Call::Cycle,
             1 => Call::PlaceParameter {
@@ -72,12 +81,53 @@ impl Entry {
             7 if self.a == 0 => Call::SetMode(Mode::Configuration),
             7 => Call::SetMode(Mode::Protected),
             8 => Call::SetOffline(self.a != 0),
-            _ => Call::Project(edits),
+            _ => match self.edit() {
+                Some(edit) => Call::Edit(edit),
+                None => Call::Project(edits),
+            },
         }
     }
 
-    /// Whether the call opens a projection.
-    pub(crate) fn projects(&self) -> bool {
-        self.code > 11
+    /// Reads the edits that the call makes, where it opens a projection; how many they are, and what is behind them.
+    pub(crate) fn read_edits<'a>(
+        &self,
+        behind: &'a [u32],
+        edits: &mut [Edit; EDITS],
+    ) -> (usize, &'a [u32])
+        ensures few { result.0 ≤ 4 }
+        ensures edits { map change_of (take result.0 edits.new) ≡ (edits_of self.now behind.now).edits }
+        ensures rest { result.1.now ≡ (edits_of self.now behind.now).rest }
+    {
+        if self.code > 11 {
+            read_edits(behind, edits)
+        } else {
+            (0, behind)
+        }
     }
+}
+
+/// The edit with which a script goes on, and what is behind it.
+fn next_edit(script: &[u32]) -> Option<(Edit, &[u32])>
+    ensures edit { option_map (λ p. change_of p.0) result ≡ next_edit script.now }
+    ensures rest { IfSome result (λ p. p.1.now ≡ drop 8 script.now) }
+{
+    let (words, behind) = script.split_first_chunk::<CALL_WORDS>()?;
+    Some((Entry::from_words(words).edit()?, behind))
+}
+
+/// Reads the edits with which a script goes on; how many they are, and what is behind them.
+fn read_edits<'a>(script: &'a [u32], edits: &mut [Edit; EDITS]) -> (usize, &'a [u32])
+    ensures few { result.0 ≤ 4 }
+    ensures edits { map change_of (take result.0 edits.new) ≡ (edits_in 4 script.now).edits }
+    ensures rest { result.1.now ≡ (edits_in 4 script.now).rest }
+{
+    let mut rest = script;
+    for count in 0..EDITS {
+        let Some((edit, behind)) = next_edit(rest) else {
+            return (count, rest);
+        };
+        edits[count] = edit;
+        rest = behind;
+    }
+    (EDITS, rest)
 }

@@ -5,19 +5,18 @@ use Rattle.lines.specs.Lines.{Meaning, meaning}
 use Rattle.racks.specs.Racks.{station_at}
 use Rattle.control.specs.Cycles.{new_master}
 use Rattle.exports.specs.Counting.{requests_in}
-use Rattle.exports.proofs.Counting.{count_starts, counts_on, new_empty, same_meaning}
+use Rattle.exports.proofs.Counting.{count_starts, counts_on, same_meaning}
 use Rattle.exports.proofs.cycles.asi_cycles.Goals as goal
 
 pub loop-done-init : goal.loop-done-init
 loop-done-init c =
     let opened = c.in-Ok.ensures in
-    let q = c.over-queues.ensures in
-    count_starts _ _ _ _
-    (new_empty c.new-master.result c.over-queues.result c.new-master.ensures q.no_order q.no_answer q.order_slots q.answer_slots)
-    (same_meaning _ _ (station_at c.in-Ok.bench.stations) (place_at c.args.words.now) opened.1 opened.2)
+    count_starts _ _ _ _ c.new-master.ensures.new (same_meaning _ _ (station_at c.in-Ok.bench.stations) (place_at c.args.words.now) opened.1 opened.2)
 
 pub loop-done-preserved : goal.loop-done-preserved
-loop-done-preserved c = counts_on _ _ c.loop-done._done _ _ _ _ _ c.loop-done.sent c.cycle-report.result.requests c.loop-done.invariant c.cycle-report.ensures.cycled
+loop-done-preserved c =
+    let ran = c.cycle-report.ensures in
+    counts_on _ _ c.loop-done._done _ _ _ _ _ c.loop-done.sent c.cycle-report.result.requests c.loop-done.invariant ran.made.came_to ran.made.leaves ran.line
 
 pub returns : goal.returns
 returns c =

@@ -85,7 +85,8 @@ fn is_power_word(word: u32) -> bool
     word == POWER_UP || word == POWER_DOWN
 }
 
-fn is_image(words: &[u32]) -> bool
+/// Whether these are 33 good words.
+pub fn is_image(words: &[u32]) -> bool
     ensures is { result ≡ good_image words.now }
     ensures long { result ≡ true → length words.now ≡ 33 }
 {
@@ -95,7 +96,7 @@ fn is_image(words: &[u32]) -> bool
     are_station_words(&words[0..STATIONS]) && is_power_word(words[STATIONS])
 }
 
-/// Whether these are 33 good words.
+/// The same as a result that can be handed on by `?`: refused where they are not.
 pub fn test_image(words: &[u32]) -> Result<(), Refusal>
     ensures { outcome (λ u. u) result ≡ tested words.now }
 {

@@ -109,3 +109,21 @@ impl Record {
         Projection::open(self).edit_all(edits)
     }
 }
+
+/// Opens a projection, projects one address and closes it again, in whatever mode the record is.
+pub fn project_once(
+    target: &mut Record,
+    address: u32,
+    io: u32,
+    id: u32,
+    parameter: u32,
+) -> Result<(), Refusal>
+    ensures mode { target.new.mode ≡ target.old.mode }
+    ensures result { outcome (λ u. u) result
+        ≡ edit_outcome Mode.Configuration (projecting address io id parameter) }
+    ensures rows { rows target.new.rows
+        ≡ edit_after Mode.Configuration (projecting address io id parameter) (rows target.old.rows) }
+{
+    let mut projection = Projection::open(target);
+    projection.project_module(address, io, id, parameter)
+}

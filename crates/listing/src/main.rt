@@ -29,11 +29,11 @@ fn list(rt: &impl Print, log: [Outcome; CALLS]) -> io::Result<()> {
 
 fn main(rt: HostRuntime) -> io::Result<()> {
     // One byte more than an image has, so that a longer input shows.
-    let mut bytes = Vec::new(rt.alloc());
-    rt.stdin()
-        .take(IMAGE_BYTES as u64 + 1)
-        .read_to_end(&mut bytes)?;
-    match on_image(&bytes) {
+    let mut bytes = [0; IMAGE_BYTES + 1];
+    let mut free = &mut bytes[..];
+    io::copy(&mut rt.stdin().take(IMAGE_BYTES as u64 + 1), &mut free)?;
+    let count = (IMAGE_BYTES + 1).saturating_sub(free.len());
+    match on_image(&bytes[..count]) {
         Ok(log) => list(&rt, log),
         Err(refusal) => println!(rt; "{refusal}"),
     }

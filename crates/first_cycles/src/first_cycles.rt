@@ -10,8 +10,8 @@ ghost use Rattle.first_cycles.specs.Listed.{script, listed};
 use lines::line::Line;
 use master::master::Master;
 use orders::order::{Answer, Order};
+use racks::image_rack::ImageRack;
 use runs::call::{Call, Given, Outcome};
-use runs::on_image::run_on_image;
 use runs::plant::Idle;
 use runs::run::run;
 use stations::bytes::image_from_bytes;
@@ -54,10 +54,6 @@ pub fn on_image(bytes: &[u8]) -> Result<[Outcome; CALLS], Refusal>
     ensures { outcome (map came) result ≡ listed bytes.now }
 {
     let mut words = image_from_bytes(bytes)?;
-    let mut log = [Ok(Given::Nothing); CALLS];
-    let mut orders: [Order; 0] = [];
-    let mut answers: [Answer; 0] = [];
-    let mut master = Master::new(&mut orders, &mut answers);
-    run_on_image(&mut words, &SCRIPT, &mut master, &mut log)?;
-    Ok(log)
+    let mut rack = ImageRack::open(&mut words)?;
+    Ok(on_line(&mut rack))
 }

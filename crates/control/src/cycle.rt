@@ -85,7 +85,10 @@ impl ExecutionControl {
         ensures served { ServedIn result.phase (next_order queues.old) queues.old queues.new }
     {
         let mut cycle = self.begin(queues, line.is_powered());
-        // Data exchange is most of a cycle. Asked in a loop of its own it takes fewer instructions, since the turn is known there.
+        // Detection and data exchange are most of a cycle. Asked in a loop of its own each takes fewer instructions, since the turn is known there.
+        while cycle.detects() {
+            self.ask(line, queues, &mut cycle);
+        }
         while cycle.exchanges() {
             self.ask(line, queues, &mut cycle);
         }

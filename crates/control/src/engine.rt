@@ -53,6 +53,14 @@ impl Cycle {
         }
     }
 
+    /// Whether the request that is next is one of detection.
+    #[inline(always)]
+    pub(crate) fn detects(&self) -> bool
+        ensures { result ≡ true → Asks self.now.turn }
+    {
+        matches!(self.turn, Turn::DetectIo(_) | Turn::DetectId(_, _))
+    }
+
     /// Whether the request that is next is one of data exchange.
     #[inline(always)]
     pub(crate) fn exchanges(&self) -> bool

@@ -13,3 +13,9 @@ invariant-loop-self-2 g l = Going g.L.Line.carried g.L.Line.power g.L.Line.stati
 
 abbrev pub decreases-loop-self-2 : goal.decreases-loop-self-2
 decreases-loop-self-2 g l = left_at l.cycle.turn
+
+abbrev pub invariant-loop-self-3 : goal.invariant-loop-self-3
+invariant-loop-self-3 g l = Going g.L.Line.carried g.L.Line.power g.L.Line.stations l.fn.self l.fn.queues l.fn.line l.self l.queues l.cycle l.line
+
+abbrev pub decreases-loop-self-3 : goal.decreases-loop-self-3
+decreases-loop-self-3 g l = left_at l.cycle.turn

@@ -130,6 +130,8 @@ impl Plant<BenchRack> for Plugging {
 /// protected mode, does not enter an address whose codes are not the projected ones. The search comes back after all other addresses.
 fn script(heap: Global) -> Result<Vec<Call<'static>>, AllocError> {
     let mut calls = vec![in heap; Call::Cycle; PLUGGED as usize]?;
+    // What follows: an edit, two settings, and the cycles from plugging on, each with a reading.
+    calls.reserve_exact(3 + 2 * (waiting_bound() as usize + 1))?;
     calls.push(Call::Edit(Edit::Project {
         address: ADDRESS,
         io: IO_CODE,

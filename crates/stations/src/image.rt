@@ -96,7 +96,7 @@ pub fn is_image(words: &[u32]) -> bool
     are_station_words(&words[0..STATIONS]) && is_power_word(words[STATIONS])
 }
 
-/// The same as a result that can be handed on by `?`: refused where they are not.
+/// Refuses words that are not 33 good ones.
 pub fn test_image(words: &[u32]) -> Result<(), Refusal>
     ensures { outcome (λ u. u) result ≡ tested words.now }
 {
